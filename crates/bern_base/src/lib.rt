@@ -1,0 +1,26 @@
+//! The types that all crates of Bernoulli share: values modulo 2^64, lists, matrices, letters, rules and refusals.
+//!
+//! Ranks, rows, columns and loop values count from 0. Only readers, printed texts and line numbers count from 1.
+#![tactic(auto)]
+
+mod axes;
+mod items;
+mod letter;
+mod matrix;
+mod memory;
+mod refusal;
+mod steps;
+#[cfg(test)]
+mod tests;
+mod text;
+mod val;
+
+pub use axes::Axis;
+pub use items::Items;
+pub use letter::{Letter, NeedSet, Needs};
+pub use matrix::{Entry, Matrix, is_matrix};
+pub use memory::NoMemory;
+pub use refusal::{Refusal, Rule};
+pub use steps::Steps;
+pub use text::Text;
+pub use val::{Val, values_are_a_ring};
