@@ -1,0 +1,2 @@
+//! What a job means, as definitions alone: states, points, the dense loops, printed texts. They stand in `specs/`.
+#![tactic(auto)]
