@@ -1,0 +1,9 @@
+//! Matrix Market files: reading them exactly, and printing arrays in the same format.
+//!
+//! Rows and columns count from 0 here. In a file they count from 1, and so do the lines of a refusal; line 0 stands for the file as a whole.
+#![tactic(auto)]
+
+mod banner;
+mod numerals;
+mod size_line;
+mod word_list;
