@@ -1,1 +1,3 @@
 pub mod Naturals
+pub mod Counts
+pub mod Cursor

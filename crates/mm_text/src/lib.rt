@@ -4,6 +4,9 @@
 #![tactic(auto)]
 
 mod banner;
+mod counting;
+mod due;
+mod entry_line;
 mod numerals;
 mod size_line;
 mod word_list;
