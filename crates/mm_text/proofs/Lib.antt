@@ -1,3 +1,4 @@
 pub mod LinesLemmas
 pub mod PlacesLemmas
 pub mod EntriesLemmas
+pub mod SumsLemmas

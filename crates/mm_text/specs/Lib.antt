@@ -1,3 +1,4 @@
 pub mod Naturals
 pub mod Counts
 pub mod Cursor
+pub mod Merging

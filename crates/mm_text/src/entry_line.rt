@@ -3,7 +3,7 @@ ghost use Rattle.mm_profile.specs.Lines.{words, word_at};
 ghost use Rattle.mm_profile.specs.Numbers.{Whole, integer};
 ghost use Rattle.mm_profile.specs.Sizes.{number_at, is_square};
 ghost use Rattle.mm_profile.specs.Places.{Place, Stated, At};
-ghost use Rattle.mm_profile.specs.Entries.{mirrored, is_own_negative, counted_of, valued, is_index, placed, is_stated_line, entry_of};
+ghost use Rattle.mm_profile.specs.Entries.{mirrored, is_skew, counted_of, valued, is_index, placed, is_stated_line, entry_of};
 ghost use Rattle.mm_text.specs.Naturals.{StandsFor, IsNumber};
 ghost use Rattle.mm_text.specs.Counts.{counted_list, listed, are_inside};
 
@@ -49,12 +49,12 @@ fn counted_of(symmetry: Symmetry, row: u32, col: u32, value: Val) -> Counted
     }
 }
 
-fn is_own_negative(symmetry: Symmetry, row: u32, col: u32, value: Val) -> bool
-    ensures { result ≡ is_own_negative symmetry row col value }
+fn is_skew(symmetry: Symmetry) -> bool
+    ensures { result ≡ is_skew symmetry }
 {
     match symmetry {
-        Symmetry::General | Symmetry::Symmetric => true,
-        Symmetry::Skew => row != col || value.bits() == 0,
+        Symmetry::General | Symmetry::Symmetric => false,
+        Symmetry::Skew => true,
     }
 }
 
@@ -69,7 +69,8 @@ fn valued(head: &Head, row: u32, col: u32, number: Number) -> Result<Counted, Ru
     let Number::Inside(value) = number else {
         return Err(Rule::M8);
     };
-    if !is_own_negative(head.kind.symmetry, row, col, value) {
+    let bits = value.bits();
+    if is_skew(head.kind.symmetry) && row == col && bits != 0 {
         return Err(Rule::M9);
     }
     Ok(counted_of(head.kind.symmetry, row, col, value))

@@ -9,4 +9,5 @@ mod due;
 mod entry_line;
 mod numerals;
 mod size_line;
+mod sums;
 mod word_list;
