@@ -7,7 +7,13 @@ mod banner;
 mod counting;
 mod due;
 mod entry_line;
+mod error;
 mod numerals;
+mod room;
 mod size_line;
 mod sums;
+mod table;
+mod taking;
 mod word_list;
+
+pub use error::{FeedError, MmError};
