@@ -2,3 +2,4 @@ pub mod LinesLemmas
 pub mod PlacesLemmas
 pub mod EntriesLemmas
 pub mod SumsLemmas
+pub mod FeedingLemmas

@@ -1,11 +1,12 @@
 -- Lines and words, piece by piece.
-use Rattle.std.proofs.Common.{◌≡◌, ℕ, zero, suc, ◌+◌, ◌<◌, ◌≤◌, Bool, true, false, not, List, [], ◌∷◌, ◌++◌, length, take, drop, map, filter, get_or, refl, sym, ap, ◌∙◌, inl, inr, arith}
+use Rattle.std.proofs.Common.{◌≡◌, ℕ, zero, suc, ◌+◌, ◌<◌, ◌≤◌, Bool, true, false, not, List, [], ◌∷◌, ◌++◌, length, take, drop, map, filter, get_or, refl, sym, ap, ◌∙◌, inl, inr, arith, ◌==◌}
 use Rattle.std.proofs.lemmas.Bool.{cases_Bool, or_parts, not-true, cases_lt, lt-ltb, le-ltb}
 use Rattle.std.proofs.lemmas.List.{get_or-drop, length-drop, nil_from_length}
 use Rattle.std.proofs.lemmas.List.Sums.{passes_at_first, prefix_len-le-length}
 use Rattle.std.specs.Prelude.{position, unwrap_or}
 use Rattle.std.proofs.Math.Nat.{add-zero}
 use Rattle.std.specs.List.{position_or_len, list_any}
+use Rattle.mm_profile.specs.Profile.{is_skipped}
 use Rattle.mm_profile.specs.Lines.{longer, cut, is_blank, is_empty, is_line_feed, words, lines, without_return}
 
 -- the pieces of a text that begins with this byte
@@ -67,17 +68,31 @@ words_step (x ∷ xs) some first =
     let two : suc (position_or_len is_blank xs) + 1 ≡ suc (position_or_len is_blank xs + 1) = omega arith in
     rw (cut_step is_blank (x ∷ xs) some) (rw (first, one, two) (ap (λ ws. (x ∷ take (position_or_len is_blank xs) xs) ∷ ws) (words_rest xs)))
 
--- a line has its first word where blanks end, and none where they don't
-pub words_next : (xs : List ℕ) → 0 < length (from_word xs) → words xs ≡ take (position_or_len is_blank (from_word xs)) (from_word xs) ∷ words (drop (position_or_len is_blank (from_word xs)) (from_word xs))
-words_next xs some =
+first_byte : (xs : List ℕ) → 0 < length (from_word xs) → is_blank (get_or (from_word xs) 0 0) ≡ false
+first_byte xs some =
     let n = position_or_len (λ b. not (is_blank b)) xs in
     let inside : n < length xs = omega (arith, some, length-drop n xs) in
-    let first : is_blank (get_or (from_word xs) 0 0) ≡ false =
-      rw (get_or-drop n xs 0 0, add-zero n) (not-true _ (passes_at_first (λ b. not (is_blank b)) xs 0 inside)) in
-    words_skip xs ∙ words_step (from_word xs) some first
+    rw (get_or-drop n xs 0 0, add-zero n) (not-true _ (passes_at_first (λ b. not (is_blank b)) xs 0 inside))
+
+-- a line has its first word where blanks end, and none where they don't
+pub words_next : (xs : List ℕ) → 0 < length (from_word xs) → words xs ≡ take (position_or_len is_blank (from_word xs)) (from_word xs) ∷ words (drop (position_or_len is_blank (from_word xs)) (from_word xs))
+words_next xs some = words_skip xs ∙ words_step (from_word xs) some (first_byte xs some)
 
 pub words_none : (xs : List ℕ) → length (from_word xs) ≡ 0 → words xs ≡ []
 words_none xs none = words_skip xs ∙ ap words (nil_from_length (from_word xs) none)
+
+-- a word begins with its first byte
+word_first : (xs : List ℕ) → 0 < length xs → is_blank (get_or xs 0 0) ≡ false → get_or (take (position_or_len is_blank xs) xs) 0 0 ≡ get_or xs 0 0
+word_first [] some first = absurd (omega arith)
+word_first (x ∷ xs) some first =
+    let one : 1 + position_or_len is_blank xs ≡ suc (position_or_len is_blank xs) = omega arith in
+    rw (first, one) refl
+
+pub skipped_none : (xs : List ℕ) → length (from_word xs) ≡ 0 → is_skipped (words xs) ≡ true
+skipped_none xs none = rw (words_none xs none) refl
+
+pub skipped_first : (xs : List ℕ) → 0 < length (from_word xs) → is_skipped (words xs) ≡ (get_or (from_word xs) 0 0 == 37)
+skipped_first xs some = rw (words_next xs some) (ap (λ b. b == 37) (word_first (from_word xs) some (first_byte xs some)))
 
 -- the place of the first byte that passes, or the end
 pub unwrap_or-position : (p : ℕ → Bool) (xs : List ℕ) → unwrap_or (position p xs) (length xs) ≡ position_or_len p xs

@@ -3,3 +3,5 @@ pub mod Counts
 pub mod Cursor
 pub mod Merging
 pub mod Tables
+pub mod Stages
+pub mod Readings

@@ -1,6 +1,7 @@
 ghost use Rattle.std.specs.Prelude.{◌≡◌, ◌≢◌, [], ◌∷◌, ◌<◌, ◌≤◌, not, length, position, take, drop, false, slice_index, MatchOption};
 ghost use Rattle.std.specs.List.{position_or_len};
 ghost use Rattle.mm_profile.specs.Lines.{is_blank, without_return, words};
+ghost use Rattle.mm_profile.specs.Profile.{is_skipped};
 
 /// The line without one carriage return at its end.
 pub(crate) fn without_return(line: &[u8]) -> &[u8]
@@ -58,6 +59,14 @@ pub(crate) fn next_word(line: &[u8]) -> Option<(&[u8], &[u8])>
         return None;
     }
     Some(from.split_at(word_len(from)))
+}
+
+/// Whether a line after the first is no size line and no entry line: it has no word, or begins with a percent sign.
+pub(crate) fn is_skipped(line: &[u8]) -> bool
+    ensures { result ≡ is_skipped (words line.now) }
+{
+    let from = from_word(line);
+    from.is_empty() || from[0] == b'%'
 }
 
 /// The word of a line that has just one.

@@ -1,0 +1,158 @@
+ghost use Rattle.std.specs.Prelude.{◌≡◌, ℕ, ◌+◌, ◌-◌, ◌^◌, ◌<◌, ◌≤◌, List, [], ◌∷◌, ◌++◌, length, take, drop, position, true, false, Ok, IsTrue, IfOk, MatchOption};
+ghost use Rattle.std.specs.List.{list_any};
+ghost use Rattle.bern_base.specs.Matrix.{IsMatrix};
+ghost use Rattle.mm_profile.specs.Lines.{is_line_feed, lines};
+ghost use Rattle.mm_profile.specs.Profile.{file};
+ghost use Rattle.mm_text.specs.Stages.{Gives};
+ghost use Rattle.mm_text.specs.Readings.{rest_of, Reads};
+
+use crate::error::MmError;
+use crate::reading::Reading;
+use crate::stage::Stage;
+use crate::stepping::{finish, step};
+use crate::word_list::without_return;
+use bern_base::{Matrix, NoMemory};
+use std::alloc::Global;
+
+fn is_line_feed(byte: u8) -> bool
+    ensures { result ≡ is_line_feed byte }
+{
+    byte == b'\n'
+}
+
+/// Where the first line of a piece ends.
+fn line_end(piece: &[u8]) -> Option<usize>
+    ensures { result ≡ position is_line_feed piece.now }
+{
+    piece.iter().position(|b| is_line_feed(*b))
+}
+
+/// The first line that ends in a piece, without its line feed, and what stands after it.
+fn split_line(piece: &[u8]) -> Option<(&[u8], &[u8])>
+    ensures { MatchOption result (list_any is_line_feed piece.now ≡ false) (λ p. (list_any is_line_feed p.0.now ≡ false) × (piece.now ≡ p.0.now ++ 10 ∷ p.1.now)) }
+{
+    match line_end(piece) {
+        Some(end) => {
+            let (line, rest) = piece.split_at(end);
+            Some((line, &rest[1..]))
+        }
+        None => None,
+    }
+}
+
+impl Reading {
+    /// Nothing is read yet.
+    pub(crate) fn new(alloc: Global) -> Reading
+        ensures reads { (more : List ℕ) → rest_of result more ≡ file (lines more) }
+        ensures first { result.number ≡ 1 }
+    {
+        Reading {
+            alloc,
+            stage: Stage::Start,
+            number: 1,
+            line: Vec::new(alloc),
+        }
+    }
+
+    fn is_refused(&self) -> bool
+        ensures { IsTrue result → (bytes more : List ℕ) → rest_of self.now bytes ≡ rest_of self.now more }
+    {
+        match self.stage {
+            Stage::Refused { .. } => true,
+            _ => false,
+        }
+    }
+
+    /// Takes the end of a line, without its line feed, where `to_come` bytes are known to come after it.
+    fn end_line(self, end: &[u8], to_come: usize) -> Result<Reading, NoMemory>
+        requires whole { list_any is_line_feed end.now ≡ false }
+        requires fits { self.number + 1 < 2 ^ 64 }
+        ensures reads { IfOk result (λ after. (more : List ℕ) → rest_of self (end.now ++ 10 ∷ more) ≡ rest_of after more) }
+        ensures next { IfOk result (λ after. after.number ≡ self.number + 1) }
+    {
+        let Reading {
+            alloc,
+            stage,
+            number,
+            mut line,
+        } = self;
+        if line.as_slice().is_empty() {
+            let stage = step(alloc, stage, number, without_return(end), to_come)?;
+            return Ok(Reading {
+                alloc,
+                stage,
+                number: number + 1,
+                line,
+            });
+        }
+        line.extend_from_slice(end)?;
+        let stage = step(alloc, stage, number, without_return(line.as_slice()), to_come)?;
+        line.clear();
+        Ok(Reading {
+            alloc,
+            stage,
+            number: number + 1,
+            line,
+        })
+    }
+
+    /// Keeps the beginning of a line.
+    fn keep(self, front: &[u8]) -> Result<Reading, NoMemory>
+        requires unended { list_any is_line_feed front.now ≡ false }
+        ensures reads { IfOk result (λ after. Reads self front.now after) }
+        ensures same { IfOk result (λ after. after.number ≡ self.number) }
+    {
+        let Reading {
+            alloc,
+            stage,
+            number,
+            mut line,
+        } = self;
+        line.extend_from_slice(front)?;
+        Ok(Reading {
+            alloc,
+            stage,
+            number,
+            line,
+        })
+    }
+
+    /// Takes the next piece of the file.
+    pub(crate) fn take(self, piece: &[u8]) -> Result<Reading, NoMemory>
+        requires fits { self.number + length piece.now < 2 ^ 64 }
+        ensures reads { IfOk result (λ after. Reads self piece.now after) }
+        ensures number { IfOk result (λ after. after.number ≤ self.number + length piece.now) }
+    {
+        let mut reading = self;
+        let mut rest = piece;
+        while let Some((line, after)) = split_line(rest) {
+            if reading.is_refused() {
+                return Ok(reading);
+            }
+            reading = reading.end_line(line, after.len())?;
+            rest = after;
+        }
+        reading.keep(rest)
+    }
+
+    /// What was read, where no bytes follow.
+    pub(crate) fn finish(self) -> Result<Matrix, MmError>
+        requires fits { self.number + 1 < 2 ^ 64 }
+        ensures read { Gives result (rest_of self []) }
+        ensures matrix { IfOk result (λ m. IsMatrix m) }
+    {
+        let Reading {
+            alloc,
+            stage,
+            number,
+            line,
+        } = self;
+        if line.as_slice().is_empty() {
+            return finish(stage, number);
+        }
+        match step(alloc, stage, number, without_return(line.as_slice()), 0) {
+            Ok(stage) => finish(stage, number + 1),
+            Err(NoMemory) => Err(MmError::NoMemory),
+        }
+    }
+}
