@@ -1,5 +1,5 @@
 -- A file in pieces: its lines are those of the pieces put together.
-use Rattle.std.proofs.Common.{◌≡◌, ℕ, zero, suc, ◌+◌, ◌<◌, ◌≤◌, Bool, true, false, List, [], ◌∷◌, ◌++◌, length, take, drop, map, get_or, refl, sym, ap, subst, ◌∙◌, inl, inr, arith, Some, None, append_assoc}
+use Rattle.std.proofs.Common.{◌≡◌, ℕ, ◌+◌, ◌<◌, ◌≤◌, Bool, false, List, [], ◌∷◌, ◌++◌, length, take, drop, map, refl, sym, ap, ◌∙◌, inl, inr, arith, Some, None, append_assoc}
 use Rattle.std.specs.Prelude.{position}
 use Rattle.std.specs.List.{position_or_len, list_any}
 use Rattle.std.proofs.lemmas.Bool.{cases_Bool, cases_lt, or_from, eqb-true, lt-ltb}
@@ -33,6 +33,7 @@ list_any-None p xs none = elim (cases_lt (position_or_len p xs) (length xs)) [ i
   where
     found : position_or_len p xs < length xs → ⊥
     found below = let some : position p xs ≡ Some (position_or_len p xs) = rw (lt-ltb _ _ below) refl in cc
+
     past : (ys : List ℕ) → length ys ≤ position_or_len p ys → list_any p ys ≡ false
     past [] above = refl
     past (y ∷ ys) above = elim (cases_Bool (p y)) [ inl e ↦ absurd (omega (arith, rw e at above)) | inr e ↦ rw e (past ys (omega (arith, rw e at above))) ]

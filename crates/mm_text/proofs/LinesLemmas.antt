@@ -1,5 +1,5 @@
 -- Lines and words, piece by piece.
-use Rattle.std.proofs.Common.{◌≡◌, ℕ, zero, suc, ◌+◌, ◌<◌, ◌≤◌, Bool, true, false, not, List, [], ◌∷◌, ◌++◌, length, take, drop, map, filter, get_or, refl, sym, ap, ◌∙◌, inl, inr, arith, ◌==◌}
+use Rattle.std.proofs.Common.{◌≡◌, ℕ, suc, ◌+◌, ◌<◌, ◌≤◌, Bool, true, false, not, List, [], ◌∷◌, ◌++◌, length, take, drop, get_or, refl, ap, ◌∙◌, inl, inr, arith, ◌==◌}
 use Rattle.std.proofs.lemmas.Bool.{cases_Bool, or_parts, not-true, cases_lt, lt-ltb, le-ltb}
 use Rattle.std.proofs.lemmas.List.{get_or-drop, length-drop, nil_from_length}
 use Rattle.std.proofs.lemmas.List.Sums.{passes_at_first, prefix_len-le-length}
@@ -7,18 +7,18 @@ use Rattle.std.specs.Prelude.{position, unwrap_or}
 use Rattle.std.proofs.Math.Nat.{add-zero}
 use Rattle.std.specs.List.{position_or_len, list_any}
 use Rattle.mm_profile.specs.Profile.{is_skipped}
-use Rattle.mm_profile.specs.Lines.{longer, cut, is_blank, is_empty, is_line_feed, words, lines, without_return}
+use Rattle.mm_profile.specs.Lines.{longer, cut, is_blank, words}
 
 -- the pieces of a text that begins with this byte
 pub longer-cut : (ends : ℕ → Bool) (b : ℕ) (xs : List ℕ) → longer b (cut ends xs) ≡ (b ∷ take (position_or_len ends xs) xs) ∷ cut ends (drop (position_or_len ends xs + 1) xs)
 longer-cut ends b [] = refl
 longer-cut ends b (x ∷ xs) =
     elim (cases_Bool (ends x)) [
-      inl e ↦ rw e refl
+      | inl e ↦ rw e refl
       | inr e ↦
-        let one : 1 + position_or_len ends xs ≡ suc (position_or_len ends xs) = omega arith in
-        let two : 1 + position_or_len ends xs + 1 ≡ suc (position_or_len ends xs + 1) = omega arith in
-        rw (e, longer-cut ends x xs, two, one) refl
+          let one : 1 + position_or_len ends xs ≡ suc (position_or_len ends xs) = omega arith in
+          let two : 1 + position_or_len ends xs + 1 ≡ suc (position_or_len ends xs + 1) = omega arith in
+          rw (e, longer-cut ends x xs, two, one) refl
     ]
 
 -- the first piece and those of what stands after it
@@ -26,11 +26,11 @@ pub cut_step : (ends : ℕ → Bool) (xs : List ℕ) → 0 < length xs → cut e
 cut_step ends [] some = absurd (omega arith)
 cut_step ends (x ∷ xs) some =
     elim (cases_Bool (ends x)) [
-      inl e ↦ rw e refl
+      | inl e ↦ rw e refl
       | inr e ↦
-        let one : 1 + position_or_len ends xs ≡ suc (position_or_len ends xs) = omega arith in
-        let two : 1 + position_or_len ends xs + 1 ≡ suc (position_or_len ends xs + 1) = omega arith in
-        rw (e, longer-cut ends x xs, two, one) refl
+          let one : 1 + position_or_len ends xs ≡ suc (position_or_len ends xs) = omega arith in
+          let two : 1 + position_or_len ends xs + 1 ≡ suc (position_or_len ends xs + 1) = omega arith in
+          rw (e, longer-cut ends x xs, two, one) refl
     ]
 
 -- the words after the end of one, with the byte that ends it or without
@@ -38,11 +38,11 @@ pub words_rest : (xs : List ℕ) → words (drop (position_or_len is_blank xs + 
 words_rest [] = refl
 words_rest (x ∷ xs) =
     elim (cases_Bool (is_blank x)) [
-      inl e ↦ rw e (rw e refl)
+      | inl e ↦ rw e (rw e refl)
       | inr e ↦
-        let one : 1 + position_or_len is_blank xs ≡ suc (position_or_len is_blank xs) = omega arith in
-        let two : 1 + position_or_len is_blank xs + 1 ≡ suc (position_or_len is_blank xs + 1) = omega arith in
-        rw (e, two, one) (words_rest xs)
+          let one : 1 + position_or_len is_blank xs ≡ suc (position_or_len is_blank xs) = omega arith in
+          let two : 1 + position_or_len is_blank xs + 1 ≡ suc (position_or_len is_blank xs + 1) = omega arith in
+          rw (e, two, one) (words_rest xs)
     ]
 
 -- the line from its first word on
@@ -54,9 +54,9 @@ pub words_skip : (xs : List ℕ) → words xs ≡ words (drop (position_or_len (
 words_skip [] = refl
 words_skip (x ∷ xs) =
     elim (cases_Bool (is_blank x)) [
-      inl e ↦
-        let one : 1 + position_or_len (λ b. not (is_blank b)) xs ≡ suc (position_or_len (λ b. not (is_blank b)) xs) = omega arith in
-        rw e (rw one (words_skip xs))
+      | inl e ↦
+          let one : 1 + position_or_len (λ b. not (is_blank b)) xs ≡ suc (position_or_len (λ b. not (is_blank b)) xs) = omega arith in
+          rw e (rw one (words_skip xs))
       | inr e ↦ let none : position_or_len (λ b. not (is_blank b)) (x ∷ xs) ≡ 0 = rw e refl in rw none refl
     ]
 
@@ -99,7 +99,7 @@ pub unwrap_or-position : (p : ℕ → Bool) (xs : List ℕ) → unwrap_or (posit
 unwrap_or-position p xs =
     let within : position_or_len p xs ≤ length xs = prefix_len-le-length (λ b. not (p b)) xs in
     elim (cases_lt (position_or_len p xs) (length xs)) [
-      inl below ↦ rw (lt-ltb _ _ below) refl
+      | inl below ↦ rw (lt-ltb _ _ below) refl
       | inr above ↦ rw (le-ltb _ _ above) (omega arith)
     ]
 

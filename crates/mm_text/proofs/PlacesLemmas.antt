@@ -1,10 +1,9 @@
 -- The places of columns, step by step.
-use Rattle.std.proofs.Common.{◌≡◌, ℕ, zero, suc, ◌+◌, ◌-◌, ◌<◌, ◌≤◌, List, [], ◌∷◌, ◌++◌, map, refl, sym, ap, ◌∙◌, arith}
-use Rattle.std.specs.List.{flat_map, range_with_len}
+use Rattle.std.proofs.Common.{◌≡◌, ℕ, zero, suc, ◌+◌, ◌-◌, ◌<◌, ◌≤◌, [], ◌∷◌, ◌++◌, refl, arith}
 use Rattle.mm_profile.specs.declared.kinds.Symmetry.{Symmetry}
 use Rattle.mm_profile.specs.declared.kinds.Symmetry.TheVariants.{General, Symmetric, Skew}
 use Rattle.mm_profile.specs.declared.sizes.Head.{Head}
-use Rattle.mm_profile.specs.Places.{Place, At, first_row, column_from, columns}
+use Rattle.mm_profile.specs.Places.{At, first_row, column_from, columns}
 
 -- a place and those below it
 pub column_step : (rows row col : ℕ) → row < rows → column_from rows row col ≡ At row col ∷ column_from rows (row + 1) col

@@ -5,3 +5,4 @@ pub mod Merging
 pub mod Tables
 pub mod Stages
 pub mod Readings
+pub mod Feeds

@@ -1,9 +1,8 @@
 -- Which bytes what a feed keeps stands for.
-use Rattle.std.specs.Prelude.{◌≡◌, ℕ, min, List, ◌++◌, length, if◌then◌else◌, Option, Some, None, Result, Err}
-use Rattle.bern_base.specs.declared.refusal.Rule.TheVariants.{M12}
+use Rattle.std.specs.Prelude.{◌≡◌, ℕ, List, ◌++◌, Result}
 use Rattle.bern_base.specs.declared.matrix.Matrix.{Matrix}
 use Rattle.mm_profile.specs.Lines.{lines}
-use Rattle.mm_profile.specs.Profile.{Fault, file, is_too_long}
+use Rattle.mm_profile.specs.Profile.{Fault}
 use Rattle.mm_text.specs.Stages.{outcome}
 use Rattle.mm_text.specs.declared.reading.Reading.{Reading}
 

@@ -1,6 +1,5 @@
 -- What becomes of a stage of reading at the lines that follow.
 use Rattle.std.specs.Prelude.{◌≡◌, ℕ, ◌+◌, Bool, true, ◌==◌, List, ◌∷◌, length, Result, Ok, Err}
-use Rattle.bern_base.specs.declared.refusal.Rule.{Rule}
 use Rattle.bern_base.specs.declared.matrix.Matrix.{Matrix}
 use Rattle.mm_profile.specs.Profile.{Fault, kept, body, file}
 use Rattle.mm_text.specs.Tables.{table_rest}

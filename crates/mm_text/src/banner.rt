@@ -52,11 +52,7 @@ fn symmetry_of(word: &[u8]) -> Option<Symmetry>
 }
 
 /// The kind of three words that are known, where there is such a kind.
-fn kind_of(
-    format: Option<Format>,
-    field: Option<Field>,
-    symmetry: Option<Symmetry>,
-) -> Option<Kind>
+fn kind_of(format: Option<Format>, field: Option<Field>, symmetry: Option<Symmetry>) -> Option<Kind>
     ensures { result ≡ kind_of format field symmetry }
 {
     match (format?, field?, symmetry?) {

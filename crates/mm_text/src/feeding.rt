@@ -1,4 +1,4 @@
-ghost use Rattle.std.specs.Prelude.{◌≡◌, ℕ, ◌+◌, ◌-◌, ◌^◌, ◌<◌, ◌≤◌, List, [], ◌∷◌, ◌++◌, length, take, drop, position, true, false, Ok, IsTrue, IfOk, MatchOption};
+ghost use Rattle.std.specs.Prelude.{◌≡◌, ℕ, ◌+◌, ◌-◌, ◌^◌, ◌<◌, ◌≤◌, List, [], ◌∷◌, ◌++◌, length, take, drop, position, true, false, Ok, Err, IsTrue, IfOk, MatchOption};
 ghost use Rattle.std.specs.List.{list_any};
 ghost use Rattle.bern_base.specs.Matrix.{IsMatrix};
 ghost use Rattle.mm_profile.specs.Lines.{is_line_feed, lines};
@@ -11,7 +11,7 @@ use crate::reading::Reading;
 use crate::stage::Stage;
 use crate::stepping::{finish, step};
 use crate::word_list::without_return;
-use bern_base::{Matrix, NoMemory};
+use bern_base::{Matrix, NoMemory, Rule};
 use std::alloc::Global;
 
 fn is_line_feed(byte: u8) -> bool
@@ -54,6 +54,23 @@ impl Reading {
         }
     }
 
+    /// The reading of a file that has too many bytes. What was kept of it is dropped.
+    pub(crate) fn too_long(self) -> Reading
+        ensures reads { (more : List ℕ) → rest_of result more ≡ Err (0, Rule.M12) }
+        ensures first { result.number ≡ 1 }
+    {
+        let alloc = self.alloc;
+        Reading {
+            alloc,
+            stage: Stage::Refused {
+                line: 0,
+                rule: Rule::M12,
+            },
+            number: 1,
+            line: Vec::new(alloc),
+        }
+    }
+
     fn is_refused(&self) -> bool
         ensures { IsTrue result → (bytes more : List ℕ) → rest_of self.now bytes ≡ rest_of self.now more }
     {
@@ -86,7 +103,13 @@ impl Reading {
             });
         }
         line.extend_from_slice(end)?;
-        let stage = step(alloc, stage, number, without_return(line.as_slice()), to_come)?;
+        let stage = step(
+            alloc,
+            stage,
+            number,
+            without_return(line.as_slice()),
+            to_come,
+        )?;
         line.clear();
         Ok(Reading {
             alloc,

@@ -8,8 +8,10 @@ mod counting;
 mod due;
 mod entry_line;
 mod error;
+mod feed;
 mod feeding;
 mod numerals;
+mod pieces;
 mod reading;
 mod room;
 mod size_line;
@@ -21,3 +23,5 @@ mod taking;
 mod word_list;
 
 pub use error::{FeedError, MmError};
+pub use feed::MatrixFeed;
+pub use pieces::read_matrix;

@@ -77,7 +77,11 @@ fn is_plus(word: &[u8]) -> bool
 fn unsigned(word: &[u8]) -> &[u8]
     ensures { result.now ≡ unsigned word.now }
 {
-    if is_minus(word) || is_plus(word) { &word[1..] } else { word }
+    if is_minus(word) || is_plus(word) {
+        &word[1..]
+    } else {
+        word
+    }
 }
 
 /// The value of a number with this sign.

@@ -9,6 +9,7 @@ use bern_base::Rule;
 use mm_profile::{Format, Head, Kind, Symmetry};
 
 const MAX_SIDE: u32 = 4_194_304;
+
 const MAX_STATED: u32 = 16_777_216;
 
 /// The numbers of a line of two numbers.

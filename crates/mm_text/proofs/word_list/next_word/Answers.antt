@@ -9,4 +9,4 @@ returns-then-is_empty c =
 
 pub returns : goal.returns
 returns c = rw (c.split_at.ensures.front, c.split_at.ensures.back, c.word_len.ensures.length, c.from_word-from.ensures) (words_next c.args.line.now
-      (rw (← c.from_word-from.ensures) (let some : length c.from_word-from.result.now ≡ 0 → ⊥ = eqb-false _ _ (sym c.is_empty.ensures ∙ c.if-is_empty.false) in omega (arith, some))))
+    (rw (← c.from_word-from.ensures) (let some : length c.from_word-from.result.now ≡ 0 → ⊥ = eqb-false _ _ (sym c.is_empty.ensures ∙ c.if-is_empty.false) in omega (arith, some))))

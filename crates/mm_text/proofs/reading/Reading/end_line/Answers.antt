@@ -18,4 +18,4 @@ returns-clause-reads c = λ more.
     let Takes : List ℕ → Type 0 = λ line. Steps c.args.self.stage c.args.self.number line c.in_ok-stage-2.stage in
     let whole = c.without_return-2.ensures ∙ ap without_return (c.as_slice-2.ensures.value ∙ c.in_ok-extend_from_slice.ensures.items) in
     rw c.clear.ensures.items
-      (ends_line c.args.self.stage c.in_ok-stage-2.stage c.args.self.number c.args.self.line.items c.args.end.now c.args.self.unended c.requires.whole (subst Takes whole c.in_ok-stage-2.ensures.steps) more)
+    (ends_line c.args.self.stage c.in_ok-stage-2.stage c.args.self.number c.args.self.line.items c.args.end.now c.args.self.unended c.requires.whole (subst Takes whole c.in_ok-stage-2.ensures.steps) more)
