@@ -1,0 +1,69 @@
+-- Scripts made of rounds: in each round a rank posts what is due, works, waits for what is due to it, and works again.
+use Rattle.std.specs.Prelude.{ℕ, Bool, true, List, [], ◌∷◌, ◌++◌, Option, Some, None, length, take, map, replicate, filter_map, is_none, slice_get, if◌then◌else◌, ◌==◌, nat_lt}
+use Rattle.std.specs.List.{flat_map, range_with_len}
+use Rattle.std.specs.Option.{option_and_then}
+use Rattle.rank_scripts.specs.Acts.{Act, Work, Post, Wait}
+use Rattle.rank_scripts.specs.Ranks.{all_below}
+use Rattle.rank_scripts.specs.Scripts.{Scripts}
+
+-- which letter is due from one rank to another, if one is, and how many works stand before the wait and behind it
+pub record Round (L : Type 0) : Type 0 where
+  pub due : ℕ → ℕ → Option L
+  pub inner : ℕ
+  pub outer : ℕ
+
+-- the letter from p to q; no rank posts to itself
+abbrev pub due_of : {L : Type 0} → ℕ → ℕ → Round L → Option L
+due_of p q round = if p == q then None else round.due p q
+
+abbrev pub post_due : {L : Type 0} → ℕ → Option L → List (Act L)
+post_due q None = []
+post_due q (Some letter) = Post q letter ∷ []
+
+-- rank p's posts of a round, by rising receiver
+abbrev pub posts_of : {L : Type 0} → ℕ → ℕ → Round L → List (Act L)
+posts_of ranks p round = flat_map (λ q. post_due q (due_of p q round)) (range_with_len 0 ranks)
+
+-- so much work
+abbrev pub works_of : {L : Type 0} → ℕ → List (Act L)
+works_of n = replicate n Work
+
+-- what rank p does in a round
+abbrev pub acts_of : {L : Type 0} → ℕ → ℕ → Round L → List (Act L)
+acts_of ranks p round =
+    posts_of ranks p round ++ (works_of round.inner ++ Wait ∷ works_of round.outer)
+
+-- the scripts of these rounds: a first work, and then round after round
+abbrev pub scripts_of : {L : Type 0} → ℕ → List (Round L) → Scripts L
+scripts_of ranks rounds = record { ranks = ranks; script = λ p. Work ∷ flat_map (acts_of ranks p) rounds }
+
+-- the letters from p to q that are due in these rounds, in order
+abbrev pub letters_of : {L : Type 0} → ℕ → ℕ → List (Round L) → List L
+letters_of p q rounds = filter_map (due_of p q) rounds
+
+-- the rounds of a run over nests: each rank requests of each other one what it will need, and then each nest has a
+-- round with the values that are due, one work before the wait and one behind it
+abbrev pub request_round : {L : Type 0} → (ℕ → ℕ → L) → Round L
+request_round request = record { due = λ p q. Some (request p q); inner = 0; outer = 0 }
+
+abbrev pub nest_round : {L : Type 0} → (ℕ → ℕ → ℕ → Option L) → ℕ → Round L
+nest_round values nest = record { due = values nest; inner = 1; outer = 1 }
+
+abbrev pub nest_rounds : {L : Type 0} → ℕ → (ℕ → ℕ → L) → (ℕ → ℕ → ℕ → Option L) → List (Round L)
+nest_rounds nests request values = request_round request ∷ map (nest_round values) (range_with_len 0 nests)
+
+abbrev pub nest_scripts : {L : Type 0} → ℕ → ℕ → (ℕ → ℕ → L) → (ℕ → ℕ → ℕ → Option L) → Scripts L
+nest_scripts ranks nests request values = scripts_of ranks (nest_rounds nests request values)
+
+-- the letter from q to r that is due in round m
+abbrev pub turn_letter : {L : Type 0} → List (Round L) → ℕ → ℕ → ℕ → Option L
+turn_letter rounds m q r = option_and_then (due_of q r) (slice_get rounds m)
+
+-- rank r took the letter of round m from q, if one is due: it took more letters of q than the earlier rounds have
+abbrev pub turn_given : {L : Type 0} → List (Round L) → ℕ → (ℕ → List L) → ℕ → ℕ → Bool
+turn_given rounds r given m q =
+    if is_none (turn_letter rounds m q r) then true else nat_lt (length (letters_of q r (take m rounds))) (length (given q))
+
+-- the other reading of a wait: that of round m names the letters of round m alone
+abbrev pub has_turn : {L : Type 0} → ℕ → List (Round L) → ℕ → (ℕ → List L) → ℕ → Bool
+has_turn ranks rounds r given m = all_below ranks (λ q. turn_given rounds r given m q)
