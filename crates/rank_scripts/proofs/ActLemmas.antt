@@ -5,7 +5,8 @@ use Rattle.rank_scripts.specs.Acts.{Act, Work, Post, Wait, posted_to, posts_to, 
 use Rattle.rank_scripts.specs.Nodes.{IsPlace}
 
 -- what acts post that stand one behind the other
-pub posts_to-append : {L : Type 0} (q : ℕ) (xs ys : List (Act L)) → posts_to q (xs ++ ys) ≡ posts_to q xs ++ posts_to q ys
+pub posts_to-append : {L : Type 0} (q : ℕ) (xs ys : List (Act L)) →
+    posts_to q (xs ++ ys) ≡ posts_to q xs ++ posts_to q ys
 posts_to-append q xs ys = flat_map-append (posted_to q) xs ys
 
 pub works-append : {L : Type 0} (xs ys : List (Act L)) → works (xs ++ ys) ≡ works xs + works ys
@@ -27,7 +28,8 @@ work_first (Work ∷ acts) at = refl
 work_first (Post to letter ∷ acts) at = absurd (cc)
 work_first (Wait ∷ acts) at = absurd (cc)
 
-pub post_first : {L : Type 0} (todo : List (Act L)) → at_post todo ≡ true → (letter : L) × (todo ≡ Post (receiver todo) letter ∷ drop 1 todo)
+pub post_first : {L : Type 0} (todo : List (Act L)) → at_post todo ≡ true →
+    (letter : L) × (todo ≡ Post (receiver todo) letter ∷ drop 1 todo)
 post_first [] at = absurd (cc)
 post_first (Work ∷ acts) at = absurd (cc)
 post_first (Post to letter ∷ acts) at = (letter, refl)
@@ -51,7 +53,8 @@ until-wait (Post to letter ∷ before) acts = ap (λ xs. Post to letter ∷ xs) 
 until-wait (Wait ∷ before) acts = ap (λ xs. Wait ∷ xs) (until-wait before acts)
 
 -- no more is posted before a wait than in all
-pub until-posts : {L : Type 0} (r m : ℕ) (acts : List (Act L)) → length (posts_to r (until m acts)) ≤ length (posts_to r acts)
+pub until-posts : {L : Type 0} (r m : ℕ) (acts : List (Act L)) →
+    length (posts_to r (until m acts)) ≤ length (posts_to r acts)
 until-posts r m [] = omega arith
 until-posts r m (Work ∷ acts) = until-posts r m acts
 until-posts r m (Post to letter ∷ acts) =
@@ -63,7 +66,8 @@ until-posts r zero (Wait ∷ acts) = omega arith
 until-posts r (suc m) (Wait ∷ acts) = until-posts r m acts
 
 -- nor more than before a later wait
-pub until-posts_before : {L : Type 0} (r m : ℕ) (before acts : List (Act L)) → m ≤ waits before → length (posts_to r (until m (before ++ Wait ∷ acts))) ≤ length (posts_to r before)
+pub until-posts_before : {L : Type 0} (r m : ℕ) (before acts : List (Act L)) → m ≤ waits before →
+    length (posts_to r (until m (before ++ Wait ∷ acts))) ≤ length (posts_to r before)
 until-posts_before r zero [] acts h = omega arith
 until-posts_before r (suc m) [] acts h = absurd (omega arith)
 until-posts_before r m (Work ∷ before) acts h = until-posts_before r m before acts h
@@ -76,7 +80,8 @@ until-posts_before r zero (Wait ∷ before) acts h = omega arith
 until-posts_before r (suc m) (Wait ∷ before) acts h = until-posts_before r m before acts (omega arith)
 
 -- the place one act further on
-pub IsPlace-next : {L : Type 0} (script : List (Act L)) (m : ℕ) (act : Act L) (acts : List (Act L)) → IsPlace script m (act ∷ acts) → IsPlace script (m + waits (act ∷ [])) acts
+pub IsPlace-next : {L : Type 0} (script : List (Act L)) (m : ℕ) (act : Act L) (acts : List (Act L)) →
+    IsPlace script m (act ∷ acts) → IsPlace script (m + waits (act ∷ [])) acts
 IsPlace-next script m act acts place =
     record {
       before = place.before ++ act ∷ [];

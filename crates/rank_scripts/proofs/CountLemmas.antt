@@ -12,13 +12,16 @@ use Rattle.rank_scripts.proofs.NodeLemmas.{works-settle, rest-at_post}
 use Rattle.rank_scripts.proofs.WorldLemmas.{step_fit}
 
 -- what one rank has left
-pub worked_left : {L : Type 0} (scripts : Scripts L) (r ranks : ℕ) (node : Node L) → at_work node.todo ≡ true → suc (node_left ranks (worked scripts r node)) ≡ node_left ranks node
+pub worked_left : {L : Type 0} (scripts : Scripts L) (r ranks : ℕ) (node : Node L) → at_work node.todo ≡ true →
+    suc (node_left ranks (worked scripts r node)) ≡ node_left ranks node
 worked_left scripts r ranks node at =
     let after = works-settle scripts r node.passed (drop 1 node.todo) node.given node.rest in
     let before = ap works (work_first node.todo at) in
     omega arith
 
-pub posted_left : {L : Type 0} (scripts : Scripts L) (r ranks : ℕ) (node : Node L) → at_post node.todo ≡ true → receiver node.todo < ranks → NodeFit scripts r node → suc (suc (node_left ranks (posted scripts r node))) ≡ node_left ranks node
+pub posted_left : {L : Type 0} (scripts : Scripts L) (r ranks : ℕ) (node : Node L) → at_post node.todo ≡ true →
+    receiver node.todo < ranks → NodeFit scripts r node →
+    suc (suc (node_left ranks (posted scripts r node))) ≡ node_left ranks node
 posted_left scripts r ranks node at within fit =
     let to = receiver node.todo in
     let first = post_first node.todo at in
@@ -29,20 +32,24 @@ posted_left scripts r ranks node at within fit =
     let sum = sum_put ranks node.rest to (drop 1 (node.rest to)) length within in
     omega arith
 
-pub took_left : {L : Type 0} (scripts : Scripts L) (r ranks : ℕ) (node : Node L) (from : ℕ) (more : List L) → node_left ranks (took scripts r node from more) ≡ node_left ranks node
+pub took_left : {L : Type 0} (scripts : Scripts L) (r ranks : ℕ) (node : Node L) (from : ℕ) (more : List L) →
+    node_left ranks (took scripts r node from more) ≡ node_left ranks node
 took_left scripts r ranks node from more =
     let after = works-settle scripts r node.passed node.todo (put node.given from (node.given from ++ more)) node.rest in
     omega arith
 
 -- the letters in flight after those of one pair changed
-pub in_flight-put : {L : Type 0} (ranks : ℕ) (flight : ℕ → ℕ → List L) (p q : ℕ) (new : List L) → p < ranks → q < ranks → in_flight ranks (put flight p (put (flight p) q new)) + length (flight p q) ≡ in_flight ranks flight + length new
+pub in_flight-put : {L : Type 0} (ranks : ℕ) (flight : ℕ → ℕ → List L) (p q : ℕ) (new : List L) → p < ranks →
+    q < ranks →
+    in_flight ranks (put flight p (put (flight p) q new)) + length (flight p q) ≡ in_flight ranks flight + length new
 in_flight-put ranks flight p q new p_there q_there =
     let all = sum_put ranks flight p (put (flight p) q new) (λ row. sum_below ranks (λ j. length (row j))) p_there in
     let row = sum_put ranks (flight p) q new length q_there in
     omega arith
 
 -- the receiver of a letter is there
-pub post_within : {L : Type 0} (scripts : Scripts L) (w : World L) (r : ℕ) → IsClosed scripts → Fit scripts w → at_post (w.node r).todo ≡ true → receiver (w.node r).todo < scripts.ranks
+pub post_within : {L : Type 0} (scripts : Scripts L) (w : World L) (r : ℕ) → IsClosed scripts → Fit scripts w →
+    at_post (w.node r).todo ≡ true → receiver (w.node r).todo < scripts.ranks
 post_within scripts w r closed fit at =
     let to = receiver (w.node r).todo in
     let first = post_first (w.node r).todo at in
@@ -56,7 +63,8 @@ post_within scripts w r closed fit at =
           absurd (omega arith)
     ]
 
-pub happens_count : {L : Type 0} (scripts : Scripts L) (w : World L) (event : Event) → IsClosed scripts → Fit scripts w → can scripts w event ≡ true → suc (left scripts (happens scripts w event)) ≡ left scripts w
+pub happens_count : {L : Type 0} (scripts : Scripts L) (w : World L) (event : Event) → IsClosed scripts →
+    Fit scripts w → can scripts w event ≡ true → suc (left scripts (happens scripts w event)) ≡ left scripts w
 happens_count scripts w (Works r) closed fit enabled =
     let parts = and_parts _ _ enabled in
     let there = ltb-true r scripts.ranks parts.0 in
@@ -92,7 +100,8 @@ happens_count scripts w (Takes r from) closed fit enabled =
     length-drop_one [] some = absurd (cc)
     length-drop_one (x ∷ xs) some = refl
 
-pub step_count : {L : Type 0} (scripts : Scripts L) (w : World L) (event : Event) → IsClosed scripts → Fit scripts w → cond (can scripts w event) 1 0 + left scripts (step scripts w event) ≡ left scripts w
+pub step_count : {L : Type 0} (scripts : Scripts L) (w : World L) (event : Event) → IsClosed scripts → Fit scripts w →
+    cond (can scripts w event) 1 0 + left scripts (step scripts w event) ≡ left scripts w
 step_count scripts w event closed fit =
     elim (cases_Bool (can scripts w event)) [
       | inl enabled ↦ rw (enabled) (let counted = happens_count scripts w event closed fit enabled in omega arith)
@@ -100,7 +109,8 @@ step_count scripts w event closed fit =
     ]
 
 -- the events that were accepted and those that are left make up what was left before
-pub run_count : {L : Type 0} (scripts : Scripts L) (w : World L) (events : List Event) → IsClosed scripts → Fit scripts w → accepted scripts w events + left scripts (run scripts w events) ≡ left scripts w
+pub run_count : {L : Type 0} (scripts : Scripts L) (w : World L) (events : List Event) → IsClosed scripts →
+    Fit scripts w → accepted scripts w events + left scripts (run scripts w events) ≡ left scripts w
 run_count scripts w [] closed fit = omega arith
 run_count scripts w (event ∷ events) closed fit =
     let first = step_count scripts w event closed fit in

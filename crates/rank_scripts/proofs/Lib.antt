@@ -7,3 +7,4 @@ pub mod PositionLemmas
 pub mod ProgressLemmas
 pub mod RoundLemmas
 pub mod TurnLemmas
+pub mod BookLemmas

@@ -4,12 +4,14 @@ use Rattle.std.proofs.lemmas.Bool.{cond_both, cases_eq, leb-true, le-leb, eq-eqb
 use Rattle.rank_scripts.specs.Acts.{Act, Work, Post, Wait, posts_to, works, at_work, at_post, at_wait}
 use Rattle.rank_scripts.specs.Ranks.{put}
 use Rattle.rank_scripts.specs.Scripts.{Scripts, book, named}
-use Rattle.rank_scripts.specs.Nodes.{Node, has_all, behind, settle, fresh, worked, posted, took, IsPlace, NodeFit}
+use Rattle.rank_scripts.specs.Nodes.{HasPassed, Node, has_all, behind, settle, fresh, worked, posted, took, IsPlace, NodeFit}
 use Rattle.rank_scripts.proofs.RankLemmas.{put_both, all_below_at, all_below_from}
 use Rattle.rank_scripts.proofs.ActLemmas.{IsPlace-next}
 
 -- what passing a wait keeps, settling keeps
-pub behind_any : {L : Type 0} (passes : ℕ → Bool) (P : ℕ → List (Act L) → Type 0) → ((m : ℕ) (acts : List (Act L)) → passes m ≡ true → P m (Wait ∷ acts) → P (suc m) acts) → (m : ℕ) (acts : List (Act L)) → P m acts → P (behind passes m acts).passed (behind passes m acts).todo
+pub behind_any : {L : Type 0} (passes : ℕ → Bool) (P : ℕ → List (Act L) → Type 0) →
+    ((m : ℕ) (acts : List (Act L)) → passes m ≡ true → P m (Wait ∷ acts) → P (suc m) acts) →
+    (m : ℕ) (acts : List (Act L)) → P m acts → P (behind passes m acts).passed (behind passes m acts).todo
 behind_any passes P next m [] here = here
 behind_any passes P next m (Work ∷ acts) here = here
 behind_any passes P next m (Post to letter ∷ acts) here = here
@@ -19,7 +21,8 @@ behind_any passes P next m (Wait ∷ acts) here =
     (λ e. here)
 
 -- it stops only at a wait that the test does not let pass
-pub behind_stops : {L : Type 0} (passes : ℕ → Bool) (m : ℕ) (acts : List (Act L)) → at_wait (behind passes m acts).todo ≡ true → passes (behind passes m acts).passed ≡ false
+pub behind_stops : {L : Type 0} (passes : ℕ → Bool) (m : ℕ) (acts : List (Act L)) →
+    at_wait (behind passes m acts).todo ≡ true → passes (behind passes m acts).passed ≡ false
 behind_stops passes m [] = λ waits_here. absurd (cc)
 behind_stops passes m (Work ∷ acts) = λ waits_here. absurd (cc)
 behind_stops passes m (Post to letter ∷ acts) = λ waits_here. absurd (cc)
@@ -29,14 +32,18 @@ behind_stops passes m (Wait ∷ acts) =
     (λ e waits_here. e)
 
 -- settling does no work and posts nothing
-pub works-settle : {L : Type 0} (scripts : Scripts L) (r m : ℕ) (acts : List (Act L)) (given rest : ℕ → List L) → works (settle scripts r m acts given rest).todo ≡ works acts
+pub works-settle : {L : Type 0} (scripts : Scripts L) (r m : ℕ) (acts : List (Act L)) (given rest : ℕ → List L) →
+    works (settle scripts r m acts given rest).todo ≡ works acts
 works-settle scripts r m acts given rest = behind_any (has_all scripts r given) (λ k todo. works todo ≡ works acts) (λ k todo e at. at) m acts refl
 
-pub posts_to-settle : {L : Type 0} (scripts : Scripts L) (r m : ℕ) (acts : List (Act L)) (given rest : ℕ → List L) (q : ℕ) → posts_to q (settle scripts r m acts given rest).todo ≡ posts_to q acts
+pub posts_to-settle : {L : Type 0} (scripts : Scripts L) (r m : ℕ) (acts : List (Act L)) (given rest : ℕ → List L) (q : ℕ) →
+    posts_to q (settle scripts r m acts given rest).todo ≡ posts_to q acts
 posts_to-settle scripts r m acts given rest q = behind_any (has_all scripts r given) (λ k todo. posts_to q todo ≡ posts_to q acts) (λ k todo e at. at) m acts refl
 
 -- a settled node is fit
-pub settle_fit : {L : Type 0} (scripts : Scripts L) (r m : ℕ) (acts : List (Act L)) (given rest : ℕ → List L) → IsPlace (scripts.script r) m acts → ((q : ℕ) → rest q ≡ posts_to q acts) → ((k : ℕ) → k < m → has_all scripts r given k ≡ true) → NodeFit scripts r (settle scripts r m acts given rest)
+pub settle_fit : {L : Type 0} (scripts : Scripts L) (r m : ℕ) (acts : List (Act L)) (given rest : ℕ → List L) →
+    IsPlace (scripts.script r) m acts → ((q : ℕ) → rest q ≡ posts_to q acts) →
+    HasPassed scripts r given m → NodeFit scripts r (settle scripts r m acts given rest)
 settle_fit {L} scripts r m acts given rest place rests past =
     let passes : ℕ → Bool = has_all scripts r given in
     record {
@@ -48,7 +55,9 @@ settle_fit {L} scripts r m acts given rest place rests past =
     }
 
 -- more letters pass each wait that fewer pass
-pub has_all-more : {L : Type 0} (scripts : Scripts L) (r : ℕ) (given more : ℕ → List L) (m : ℕ) → ((q : ℕ) → length (given q) ≤ length (more q)) → has_all scripts r given m ≡ true → has_all scripts r more m ≡ true
+pub has_all-more : {L : Type 0} (scripts : Scripts L) (r : ℕ) (given more : ℕ → List L) (m : ℕ) →
+    ((q : ℕ) → length (given q) ≤ length (more q)) → has_all scripts r given m ≡ true →
+    has_all scripts r more m ≡ true
 has_all-more scripts r given more m grows all =
     all_below_from scripts.ranks _ (λ q h.
     let known : named scripts r m q ≤ length (given q) = leb-true _ _ (all_below_at scripts.ranks _ all q h) in
@@ -63,20 +72,26 @@ fresh_fit scripts r =
     (λ q. refl)
     (λ k h. absurd (omega arith))
 
-pub worked_fit : {L : Type 0} (scripts : Scripts L) (r : ℕ) (node : Node L) → at_work node.todo ≡ true → NodeFit scripts r node → NodeFit scripts r (worked scripts r node)
+pub worked_fit : {L : Type 0} (scripts : Scripts L) (r : ℕ) (node : Node L) → at_work node.todo ≡ true →
+    NodeFit scripts r node → NodeFit scripts r (worked scripts r node)
 worked_fit {L} scripts r node = go node.passed node.todo node.given node.rest
   where
-    go : (m : ℕ) (todo : List (Act L)) (given rest : ℕ → List L) → at_work todo ≡ true → NodeFit scripts r (record { passed = m; todo = todo; given = given; rest = rest }) → NodeFit scripts r (worked scripts r (record { passed = m; todo = todo; given = given; rest = rest }))
+    go : (m : ℕ) (todo : List (Act L)) (given rest : ℕ → List L) → at_work todo ≡ true →
+        NodeFit scripts r (record { passed = m; todo = todo; given = given; rest = rest }) →
+        NodeFit scripts r (worked scripts r (record { passed = m; todo = todo; given = given; rest = rest }))
     go m [] given rest at fit = absurd (cc)
     go m (Work ∷ acts) given rest at fit =
         settle_fit scripts r m acts given rest (rw add-zero at (IsPlace-next (scripts.script r) m Work acts fit.place)) fit.rests fit.past
     go m (Post to letter ∷ acts) given rest at fit = absurd (cc)
     go m (Wait ∷ acts) given rest at fit = absurd (cc)
 
-pub posted_fit : {L : Type 0} (scripts : Scripts L) (r : ℕ) (node : Node L) → at_post node.todo ≡ true → NodeFit scripts r node → NodeFit scripts r (posted scripts r node)
+pub posted_fit : {L : Type 0} (scripts : Scripts L) (r : ℕ) (node : Node L) → at_post node.todo ≡ true →
+    NodeFit scripts r node → NodeFit scripts r (posted scripts r node)
 posted_fit {L} scripts r node = go node.passed node.todo node.given node.rest
   where
-    go : (m : ℕ) (todo : List (Act L)) (given rest : ℕ → List L) → at_post todo ≡ true → NodeFit scripts r (record { passed = m; todo = todo; given = given; rest = rest }) → NodeFit scripts r (posted scripts r (record { passed = m; todo = todo; given = given; rest = rest }))
+    go : (m : ℕ) (todo : List (Act L)) (given rest : ℕ → List L) → at_post todo ≡ true →
+        NodeFit scripts r (record { passed = m; todo = todo; given = given; rest = rest }) →
+        NodeFit scripts r (posted scripts r (record { passed = m; todo = todo; given = given; rest = rest }))
     go m [] given rest at fit = absurd (cc)
     go m (Work ∷ acts) given rest at fit = absurd (cc)
     go m (Post to letter ∷ acts) given rest at fit =
@@ -88,7 +103,8 @@ posted_fit {L} scripts r node = go node.passed node.todo node.given node.rest
         fit.past
     go m (Wait ∷ acts) given rest at fit = absurd (cc)
 
-pub took_fit : {L : Type 0} (scripts : Scripts L) (r : ℕ) (node : Node L) (from : ℕ) (letters : List L) → NodeFit scripts r node → NodeFit scripts r (took scripts r node from letters)
+pub took_fit : {L : Type 0} (scripts : Scripts L) (r : ℕ) (node : Node L) (from : ℕ) (letters : List L) →
+    NodeFit scripts r node → NodeFit scripts r (took scripts r node from letters)
 took_fit scripts r node from letters fit =
     settle_fit scripts r node.passed node.todo (put node.given from (node.given from ++ letters)) node.rest fit.place fit.rests
     (λ k h. has_all-more scripts r node.given _ k
@@ -98,5 +114,6 @@ took_fit scripts r node from letters fit =
     (fit.past k h))
 
 -- at a post, the letter is the first of those that are still to be posted to its receiver
-pub rest-at_post : {L : Type 0} (scripts : Scripts L) (r : ℕ) (node : Node L) (to : ℕ) (letter : L) (acts : List (Act L)) → node.todo ≡ Post to letter ∷ acts → NodeFit scripts r node → node.rest to ≡ letter ∷ posts_to to acts
+pub rest-at_post : {L : Type 0} (scripts : Scripts L) (r : ℕ) (node : Node L) (to : ℕ) (letter : L) (acts : List (Act L)) →
+    node.todo ≡ Post to letter ∷ acts → NodeFit scripts r node → node.rest to ≡ letter ∷ posts_to to acts
 rest-at_post scripts r node to letter acts at fit = fit.rests to ∙ ap (posts_to to) at ∙ rw (eq-eqb to to refl) refl

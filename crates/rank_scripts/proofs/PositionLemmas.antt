@@ -9,11 +9,14 @@ use Rattle.rank_scripts.proofs.RankLemmas.{all_below_at}
 use Rattle.rank_scripts.proofs.ActLemmas.{posts_to-append, waits-append, until-wait, until-posts, until-posts_before, wait_first, end_first}
 
 -- a book is what was posted and what is still to post
-pub book-split : {L : Type 0} (scripts : Scripts L) (p : ℕ) (node : Node L) → (fit : NodeFit scripts p node) → (q : ℕ) → book scripts p q ≡ posts_to q fit.place.before ++ node.rest q
+pub book-split : {L : Type 0} (scripts : Scripts L) (p : ℕ) (node : Node L) → (fit : NodeFit scripts p node) →
+    (q : ℕ) → book scripts p q ≡ posts_to q fit.place.before ++ node.rest q
 book-split scripts p node fit q = ap (posts_to q) fit.place.split ∙ posts_to-append q fit.place.before node.todo ∙ rw (fit.rests q) refl
 
 -- a rank that waits or is at its end has posted all that another rank's wait names which comes after no more waits
-pub named-posted : {L : Type 0} (scripts : Scripts L) (r m q : ℕ) (node : Node L) → (fit : NodeFit scripts q node) → (at_wait node.todo ≡ true) × (m ≤ node.passed) ⊎ (at_end node.todo ≡ true) → named scripts r m q ≤ length (posts_to r fit.place.before)
+pub named-posted : {L : Type 0} (scripts : Scripts L) (r m q : ℕ) (node : Node L) → (fit : NodeFit scripts q node) →
+    (at_wait node.todo ≡ true) × (m ≤ node.passed) ⊎ (at_end node.todo ≡ true) →
+    named scripts r m q ≤ length (posts_to r fit.place.before)
 named-posted scripts r m q node fit (inl waits_there) =
     let split = fit.place.split ∙ ap (λ todo. fit.place.before ++ todo) (wait_first node.todo waits_there.0) in
     let count = fit.place.count in
@@ -24,7 +27,9 @@ named-posted scripts r m q node fit (inr ended) =
     rw split (until-posts r m fit.place.before)
 
 -- a rank at its end was given as many letters as each book to it has
-pub finished-length : {L : Type 0} (scripts : Scripts L) (r : ℕ) (node : Node L) (from : ℕ) → IsClosed scripts → NodeFit scripts r node → at_end node.todo ≡ true → from < scripts.ranks → length (book scripts from r) ≤ length (node.given from)
+pub finished-length : {L : Type 0} (scripts : Scripts L) (r : ℕ) (node : Node L) (from : ℕ) → IsClosed scripts →
+    NodeFit scripts r node → at_end node.todo ≡ true → from < scripts.ranks →
+    length (book scripts from r) ≤ length (node.given from)
 finished-length scripts r node from closed fit ended there =
     let ends = closed.ends from in
     let m = waits ends.before in
@@ -42,7 +47,9 @@ finished-length scripts r node from closed fit ended there =
     omega arith
 
 -- so if it was given a front of the book, it was given the book
-pub finished-given : {L : Type 0} (scripts : Scripts L) (r : ℕ) (node : Node L) (from : ℕ) (more : List L) → IsClosed scripts → NodeFit scripts r node → at_end node.todo ≡ true → from < scripts.ranks → node.given from ++ more ≡ book scripts from r → (node.given from ≡ book scripts from r) × (more ≡ [])
+pub finished-given : {L : Type 0} (scripts : Scripts L) (r : ℕ) (node : Node L) (from : ℕ) (more : List L) →
+    IsClosed scripts → NodeFit scripts r node → at_end node.todo ≡ true → from < scripts.ranks →
+    node.given from ++ more ≡ book scripts from r → (node.given from ≡ book scripts from r) × (more ≡ [])
 finished-given scripts r node from more closed fit ended there front =
     let enough = finished-length scripts r node from closed fit ended there in
     let parts = length-append (node.given from) more in
@@ -51,5 +58,6 @@ finished-given scripts r node from more closed fit ended there front =
     (sym (append-nil (node.given from)) ∙ rw (← none) front, none)
 
 -- and has posted its own books
-pub finished-rest : {L : Type 0} (scripts : Scripts L) (r : ℕ) (node : Node L) (q : ℕ) → NodeFit scripts r node → at_end node.todo ≡ true → node.rest q ≡ []
+pub finished-rest : {L : Type 0} (scripts : Scripts L) (r : ℕ) (node : Node L) (q : ℕ) → NodeFit scripts r node →
+    at_end node.todo ≡ true → node.rest q ≡ []
 finished-rest scripts r node q fit ended = fit.rests q ∙ ap (posts_to q) (end_first node.todo ended)

@@ -13,14 +13,16 @@ pub put_other : {A : Type 0} (f : ℕ → A) (i : ℕ) (x : A) (j : ℕ) → (j 
 put_other f i x j other = cond-false (j == i) x (f j) (ne_eqb j i other)
 
 -- what holds of the new value and of the old ones elsewhere holds of all
-pub put_both : {A : Type 0} (f : ℕ → A) (i : ℕ) (x : A) (P : ℕ → A → Type 0) → P i x → ((j : ℕ) → (j ≡ i → ⊥) → P j (f j)) → (j : ℕ) → P j (put f i x j)
+pub put_both : {A : Type 0} (f : ℕ → A) (i : ℕ) (x : A) (P : ℕ → A → Type 0) → P i x →
+    ((j : ℕ) → (j ≡ i → ⊥) → P j (f j)) → (j : ℕ) → P j (put f i x j)
 put_both f i x P here each j =
     cond_both (j == i) x (f j) (P j)
     (λ e. let Q : ℕ → Type 0 = λ k. P k x in subst Q (sym (eqb-true j i e)) here)
     (λ e. each j (eqb-false j i e))
 
 -- the same for two functions changed at one place
-pub put_two : {A B : Type 0} (f : ℕ → A) (g : ℕ → B) (i : ℕ) (x : A) (y : B) (P : ℕ → A → B → Type 0) → P i x y → ((j : ℕ) → (j ≡ i → ⊥) → P j (f j) (g j)) → (j : ℕ) → P j (put f i x j) (put g i y j)
+pub put_two : {A B : Type 0} (f : ℕ → A) (g : ℕ → B) (i : ℕ) (x : A) (y : B) (P : ℕ → A → B → Type 0) → P i x y →
+    ((j : ℕ) → (j ≡ i → ⊥) → P j (f j) (g j)) → (j : ℕ) → P j (put f i x j) (put g i y j)
 put_two {A} {B} f g i x y P here each j =
     elim (cases_eq j i) [
       | inl e ↦ let Q : ℕ → Type 0 = λ k. P k (put f i x k) (put g i y k) in subst Q (sym e) (rw (put_same f i x, put_same g i y) here)
@@ -55,7 +57,8 @@ pub least_below : (n : ℕ) (test : ℕ → Bool) (size : ℕ → ℕ) → Least
 least_below zero test size = inr (λ k h. absurd (omega arith))
 least_below (suc n) test size = elim (cases_Bool (test n)) [ inl passes ↦ at_last passes (least_below n test size) | inr fails ↦ before_last fails (least_below n test size) ]
   where
-    at_last : test n ≡ true → Least n test size ⊎ ((k : ℕ) → k < n → test k ≡ false) → Least (suc n) test size ⊎ ((k : ℕ) → k < suc n → test k ≡ false)
+    at_last : test n ≡ true → Least n test size ⊎ ((k : ℕ) → k < n → test k ≡ false) →
+        Least (suc n) test size ⊎ ((k : ℕ) → k < suc n → test k ≡ false)
     at_last passes (inl found) =
         elim (cases_lt (size n) (size found.rank)) [
           | inl smaller ↦ inl (record {
@@ -79,7 +82,8 @@ least_below (suc n) test size = elim (cases_Bool (test n)) [ inl passes ↦ at_l
           least = λ k h t. elim (cases_eq k n) [ inl e ↦ rw e (omega arith) | inr other ↦ absurd (false≢true (sym (none k (omega arith)) ∙ t)) ];
         })
 
-    before_last : test n ≡ false → Least n test size ⊎ ((k : ℕ) → k < n → test k ≡ false) → Least (suc n) test size ⊎ ((k : ℕ) → k < suc n → test k ≡ false)
+    before_last : test n ≡ false → Least n test size ⊎ ((k : ℕ) → k < n → test k ≡ false) →
+        Least (suc n) test size ⊎ ((k : ℕ) → k < suc n → test k ≡ false)
     before_last fails (inl found) =
         inl (record {
           rank = found.rank;
@@ -98,7 +102,8 @@ sum_same (suc n) f g same =
     cc
 
 -- a sum in which one value changed
-pub sum_change : (n i : ℕ) (f g : ℕ → ℕ) → i < n → ((j : ℕ) → (j ≡ i → ⊥) → f j ≡ g j) → sum_below n f + g i ≡ sum_below n g + f i
+pub sum_change : (n i : ℕ) (f g : ℕ → ℕ) → i < n → ((j : ℕ) → (j ≡ i → ⊥) → f j ≡ g j) →
+    sum_below n f + g i ≡ sum_below n g + f i
 sum_change zero i f g h same = absurd (omega arith)
 sum_change (suc n) i f g h same =
     elim (cases_eq i n) [
@@ -114,7 +119,8 @@ sum_change (suc n) i f g h same =
     ]
 
 -- the same for the sizes of a function's values
-pub sum_put : {A : Type 0} (n : ℕ) (f : ℕ → A) (i : ℕ) (x : A) (size : A → ℕ) → i < n → sum_below n (λ j. size (put f i x j)) + size (f i) ≡ sum_below n (λ j. size (f j)) + size x
+pub sum_put : {A : Type 0} (n : ℕ) (f : ℕ → A) (i : ℕ) (x : A) (size : A → ℕ) → i < n →
+    sum_below n (λ j. size (put f i x j)) + size (f i) ≡ sum_below n (λ j. size (f j)) + size x
 sum_put n f i x size h =
     let changed = sum_change n i (λ j. size (put f i x j)) (λ j. size (f j)) h (λ j other. ap size (put_other f i x j other)) in
     let here = ap size (put_same f i x) in

@@ -7,7 +7,7 @@ use Rattle.std.proofs.lemmas.List.{length_push}
 use Rattle.rank_scripts.specs.Acts.{Act, Work, Post, Wait, posts_to, waits, until}
 use Rattle.rank_scripts.specs.Ranks.{all_below}
 use Rattle.rank_scripts.specs.Scripts.{named}
-use Rattle.rank_scripts.specs.Nodes.{Position, has_all, behind}
+use Rattle.rank_scripts.specs.Nodes.{HasPassed, Position, has_all, behind}
 use Rattle.rank_scripts.specs.Rounds.{Round, due_of, posts_of, works_of, acts_of, scripts_of, letters_of, turn_letter, has_turn}
 use Rattle.rank_scripts.proofs.RankLemmas.{all_below_at}
 use Rattle.rank_scripts.proofs.ActLemmas.{posts_to-append, waits-append}
@@ -24,20 +24,23 @@ until-append m (Wait ∷ xs) ys none = absurd (omega arith)
 abbrev pub front_of : {L : Type 0} → ℕ → ℕ → Round L → List (Act L)
 front_of ranks q round = posts_of ranks q round ++ works_of round.inner
 
-pub round-cut : {L : Type 0} (ranks q : ℕ) (round : Round L) (rest : List (Act L)) → acts_of ranks q round ++ rest ≡ front_of ranks q round ++ Wait ∷ (works_of round.outer ++ rest)
+pub round-cut : {L : Type 0} (ranks q : ℕ) (round : Round L) (rest : List (Act L)) →
+    acts_of ranks q round ++ rest ≡ front_of ranks q round ++ Wait ∷ (works_of round.outer ++ rest)
 round-cut ranks q round rest = simp append_assoc
 
 pub waits-front_of : {L : Type 0} (ranks q : ℕ) (round : Round L) → waits (front_of ranks q round) ≡ 0
 waits-front_of {L} ranks q round =
     waits-append (posts_of ranks q round) (works_of round.inner) ∙ rw (waits-posts_between (λ i. due_of q i round) 0 ranks, waits-works_of L round.inner) refl
 
-pub posts_to-front_of : {L : Type 0} (ranks q r : ℕ) (round : Round L) → r < ranks → posts_to r (front_of ranks q round) ≡ option_to_list (due_of q r round)
+pub posts_to-front_of : {L : Type 0} (ranks q r : ℕ) (round : Round L) → r < ranks →
+    posts_to r (front_of ranks q round) ≡ option_to_list (due_of q r round)
 posts_to-front_of {L} ranks q r round there =
     posts_to-append r (posts_of ranks q round) (works_of round.inner) ∙
     rw (posts_to-there (λ i. due_of q i round) r 0 ranks (omega arith) (omega arith), posts_to-works_of L r round.inner) (append-nil (option_to_list (due_of q r round)))
 
 -- what a rank posts before the wait of round m are the letters of the rounds up to m
-pub posts_to-until : {L : Type 0} (ranks q r m : ℕ) (rounds : List (Round L)) → r < ranks → posts_to r (until m (round_acts ranks q rounds)) ≡ letters_of q r (take (suc m) rounds)
+pub posts_to-until : {L : Type 0} (ranks q r m : ℕ) (rounds : List (Round L)) → r < ranks →
+    posts_to r (until m (round_acts ranks q rounds)) ≡ letters_of q r (take (suc m) rounds)
 posts_to-until ranks q r m [] there = refl
 posts_to-until {L} ranks q r zero (round ∷ rounds) there =
     let cut = ap (λ acts. posts_to r (until 0 acts)) (round-cut ranks q round (round_acts ranks q rounds)) in
@@ -54,7 +57,8 @@ posts_to-until {L} ranks q r (suc m) (round ∷ rounds) there =
     rw (posts_to-front_of ranks q r round there, outer) (sym (cons_option-append (due_of q r round) (letters_of q r (take (suc m) rounds))))
 
 -- the letters of one more round
-pub letters_of-more : {L : Type 0} (rounds : List (Round L)) (m q r : ℕ) → letters_of q r (take (suc m) rounds) ≡ letters_of q r (take m rounds) ++ option_to_list (turn_letter rounds m q r)
+pub letters_of-more : {L : Type 0} (rounds : List (Round L)) (m q r : ℕ) →
+    letters_of q r (take (suc m) rounds) ≡ letters_of q r (take m rounds) ++ option_to_list (turn_letter rounds m q r)
 letters_of-more [] zero q r = refl
 letters_of-more [] (suc m) q r = refl
 letters_of-more (round ∷ rounds) zero q r = cons_option-append (due_of q r round) [] ∙ append-nil (option_to_list (due_of q r round))
@@ -63,7 +67,8 @@ letters_of-more (round ∷ rounds) (suc m) q r =
     rw (letters_of-more rounds m q r, ← append_assoc (option_to_list (due_of q r round)) (letters_of q r (take m rounds)) (option_to_list (turn_letter rounds m q r)), ← cons_option-append (due_of q r round) (letters_of q r (take m rounds))) refl
 
 -- a count that has the earlier letters has the next one too exactly where it is more
-pub count_next : {A : Type 0} (before : List A) (next : Option A) (count : ℕ) → length before ≤ count → nat_le (length (before ++ option_to_list next)) count ≡ cond (is_none next) true (nat_lt (length before) count)
+pub count_next : {A : Type 0} (before : List A) (next : Option A) (count : ℕ) → length before ≤ count →
+    nat_le (length (before ++ option_to_list next)) count ≡ cond (is_none next) true (nat_lt (length before) count)
 count_next before None count h = rw (append-nil before) (le-leb (length before) count h)
 count_next before (Some letter) count h = rw (length_push before letter) (grind (arith, nat_tests))
 
@@ -75,13 +80,16 @@ all_below-same (suc n) f g same =
     cc
 
 -- the law at one wait
-pub has_all-turn : {L : Type 0} (ranks : ℕ) (rounds : List (Round L)) (r : ℕ) (given : ℕ → List L) (m : ℕ) → r < ranks → ((k : ℕ) → k < m → has_all (scripts_of ranks rounds) r given k ≡ true) → has_all (scripts_of ranks rounds) r given m ≡ has_turn ranks rounds r given m
+pub has_all-turn : {L : Type 0} (ranks : ℕ) (rounds : List (Round L)) (r : ℕ) (given : ℕ → List L) (m : ℕ) →
+    r < ranks → HasPassed (scripts_of ranks rounds) r given m →
+    has_all (scripts_of ranks rounds) r given m ≡ has_turn ranks rounds r given m
 has_all-turn {L} ranks rounds r given m there past =
     all_below-same ranks _ _ (λ q h.
     rw (posts_to-until ranks q r m rounds there, letters_of-more rounds m q r)
     (count_next (letters_of q r (take m rounds)) (turn_letter rounds m q r) (length (given q)) (earlier m past q h)))
   where
-    earlier : (m : ℕ) → ((k : ℕ) → k < m → has_all (scripts_of ranks rounds) r given k ≡ true) → (q : ℕ) → q < ranks → length (letters_of q r (take m rounds)) ≤ length (given q)
+    earlier : (m : ℕ) → HasPassed (scripts_of ranks rounds) r given m → (q : ℕ) → q < ranks →
+        length (letters_of q r (take m rounds)) ≤ length (given q)
     earlier zero past q h = omega arith
     earlier (suc k) past q h =
         let known : named (scripts_of ranks rounds) r k q ≤ length (given q) = leb-true _ _ (all_below_at ranks _ (past k (omega arith)) q h) in
@@ -89,7 +97,9 @@ has_all-turn {L} ranks rounds r given m there past =
         omega arith
 
 -- the law at every wait that a rank passes at once
-pub behind-same : {L : Type 0} (passes turn : ℕ → Bool) → ((m : ℕ) → ((k : ℕ) → k < m → passes k ≡ true) → passes m ≡ turn m) → (m : ℕ) (acts : List (Act L)) → ((k : ℕ) → k < m → passes k ≡ true) → behind passes m acts ≡ behind turn m acts
+pub behind-same : {L : Type 0} (passes turn : ℕ → Bool) →
+    ((m : ℕ) → ((k : ℕ) → k < m → passes k ≡ true) → passes m ≡ turn m) → (m : ℕ) (acts : List (Act L)) →
+    ((k : ℕ) → k < m → passes k ≡ true) → behind passes m acts ≡ behind turn m acts
 behind-same passes turn same m [] past = refl
 behind-same passes turn same m (Work ∷ acts) past = refl
 behind-same passes turn same m (Post to letter ∷ acts) past = refl
@@ -100,7 +110,9 @@ behind-same {L} passes turn same m (Wait ∷ acts) past =
     (λ e. rw e (behind-same passes turn same (suc m) acts (λ k h. elim (cases_eq k m) [ inl here ↦ rw here e | inr other ↦ past k (omega arith) ])))
     (λ e. rw e refl))
 
-pub behind-turn : {L : Type 0} (ranks : ℕ) (rounds : List (Round L)) (r : ℕ) (given : ℕ → List L) (m : ℕ) (acts : List (Act L)) → r < ranks → ((k : ℕ) → k < m → has_all (scripts_of ranks rounds) r given k ≡ true) → behind (has_all (scripts_of ranks rounds) r given) m acts ≡ behind (has_turn ranks rounds r given) m acts
+pub behind-turn : {L : Type 0} (ranks : ℕ) (rounds : List (Round L)) (r : ℕ) (given : ℕ → List L) (m : ℕ) (acts : List (Act L)) →
+    r < ranks → HasPassed (scripts_of ranks rounds) r given m →
+    behind (has_all (scripts_of ranks rounds) r given) m acts ≡ behind (has_turn ranks rounds r given) m acts
 behind-turn ranks rounds r given m acts there past =
     behind-same (has_all (scripts_of ranks rounds) r given) (has_turn ranks rounds r given)
     (λ k earlier. has_all-turn ranks rounds r given k there earlier) m acts past

@@ -1,5 +1,5 @@
 -- One rank as it goes through its script: where it stands, what it was given, what it has still to post.
-use Rattle.std.specs.Prelude.{◌≡◌, ℕ, suc, ◌<◌, Bool, true, false, List, [], ◌∷◌, ◌++◌, length, drop, if◌then◌else◌, nat_le}
+use Rattle.std.specs.Prelude.{◌≡◌, ℕ, suc, ◌-◌, ◌<◌, Bool, true, false, List, [], ◌∷◌, ◌++◌, length, take, drop, if◌then◌else◌, nat_le}
 use Rattle.rank_scripts.specs.Acts.{Act, Work, Post, Wait, posts_to, waits, at_wait, receiver}
 use Rattle.rank_scripts.specs.Ranks.{put, all_below}
 use Rattle.rank_scripts.specs.Scripts.{Scripts, book, named}
@@ -19,6 +19,10 @@ pub record Node (L : Type 0) : Type 0 where
 -- rank r was given every letter that its wait after m others names
 abbrev pub has_all : {L : Type 0} → Scripts L → ℕ → (ℕ → List L) → ℕ → Bool
 has_all scripts r given m = all_below scripts.ranks (λ q. nat_le (named scripts r m q) (length (given q)))
+
+-- rank r was given all that its first m waits name
+abbrev pub HasPassed : {L : Type 0} → Scripts L → ℕ → (ℕ → List L) → ℕ → Type 0
+HasPassed scripts r given m = (k : ℕ) → k < m → has_all scripts r given k ≡ true
 
 -- goes on behind each wait that the test lets pass
 abbrev pub behind : {L : Type 0} → (ℕ → Bool) → ℕ → List (Act L) → Position L
@@ -56,6 +60,10 @@ abbrev pub took : {L : Type 0} → Scripts L → ℕ → Node L → ℕ → List
 took scripts r node from letters =
     settle scripts r node.passed node.todo (put node.given from (node.given from ++ letters)) node.rest
 
+-- what it has posted to rank q so far
+abbrev pub sent : {L : Type 0} → Scripts L → ℕ → Node L → ℕ → List L
+sent scripts r node q = take (length (book scripts r q) - length (node.rest q)) (book scripts r q)
+
 -- the acts are what is left of the script once m waits were passed
 pub record IsPlace {L : Type 0} (script : List (Act L)) (m : ℕ) (acts : List (Act L)) : Type 0 where
   pub before : List (Act L)
@@ -69,6 +77,6 @@ pub record NodeFit {L : Type 0} (scripts : Scripts L) (r : ℕ) (node : Node L) 
   -- what it has still to post is what its position posts
   pub rests : (q : ℕ) → node.rest q ≡ posts_to q node.todo
   -- it was given what the waits behind it name
-  pub past : (m : ℕ) → m < node.passed → has_all scripts r node.given m ≡ true
+  pub past : HasPassed scripts r node.given node.passed
   -- it was not given all that the wait at which it stands names
   pub waiting : at_wait node.todo ≡ true → has_all scripts r node.given node.passed ≡ false

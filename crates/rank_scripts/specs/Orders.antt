@@ -1,6 +1,6 @@
 -- The words for what holds in every order of events.
-use Rattle.std.specs.Prelude.{◌≡◌, ℕ, true, List, [], ◌∷◌, ◌++◌, Some, length, slice_get}
-use Rattle.rank_scripts.specs.Scripts.{Scripts, book}
+use Rattle.std.specs.Prelude.{◌≡◌, ℕ, true, List, [], ◌∷◌, ◌++◌}
+use Rattle.rank_scripts.specs.Scripts.{Scripts, book, IsNextOf}
 use Rattle.rank_scripts.specs.Worlds.{World, Event, Posts, Takes, can, happens, run, done}
 
 -- some event is enabled
@@ -12,10 +12,6 @@ pub record GoesOn {L : Type 0} (scripts : Scripts L) (w : World L) : Type 0 wher
 pub record Finishes {L : Type 0} (scripts : Scripts L) (w : World L) : Type 0 where
   pub events : List Event
   pub ends : done scripts (run scripts w events) ≡ true
-
--- the letter stands in the book right behind these
-abbrev pub IsNextOf : {L : Type 0} → List L → List L → L → Type 0
-IsNextOf book before letter = slice_get book (length before) ≡ Some letter
 
 -- rank r's post puts in flight the next letter of its book, behind all that it has posted before
 pub record PostsNext {L : Type 0} (scripts : Scripts L) (w : World L) (r to : ℕ) : Type 0 where

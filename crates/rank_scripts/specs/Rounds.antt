@@ -3,7 +3,7 @@ use Rattle.std.specs.Prelude.{ℕ, Bool, true, List, [], ◌∷◌, ◌++◌, Op
 use Rattle.std.specs.List.{flat_map, range_with_len}
 use Rattle.std.specs.Option.{option_and_then}
 use Rattle.rank_scripts.specs.Acts.{Act, Work, Post, Wait}
-use Rattle.rank_scripts.specs.Ranks.{all_below}
+use Rattle.rank_scripts.specs.Ranks.{all_below, sum_below}
 use Rattle.rank_scripts.specs.Scripts.{Scripts}
 
 -- which letter is due from one rank to another, if one is, and how many works stand before the wait and behind it
@@ -54,6 +54,12 @@ nest_rounds nests request values = request_round request ∷ map (nest_round val
 
 abbrev pub nest_scripts : {L : Type 0} → ℕ → ℕ → (ℕ → ℕ → L) → (ℕ → ℕ → ℕ → Option L) → Scripts L
 nest_scripts ranks nests request values = scripts_of ranks (nest_rounds nests request values)
+
+-- how many Values letters are due in all nests
+abbrev pub values_due : {L : Type 0} → ℕ → ℕ → (ℕ → ℕ → ℕ → Option L) → ℕ
+values_due ranks nests values =
+    sum_below ranks (λ p. sum_below ranks (λ q.
+    if p == q then 0 else length (filter_map (λ nest. values nest p q) (range_with_len 0 nests))))
 
 -- the letter from q to r that is due in round m
 abbrev pub turn_letter : {L : Type 0} → List (Round L) → ℕ → ℕ → ℕ → Option L

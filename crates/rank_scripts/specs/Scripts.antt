@@ -1,5 +1,5 @@
 -- The scripts of all ranks: their books, which letters a wait names, and how many events a run has.
-use Rattle.std.specs.Prelude.{◌≡◌, ℕ, ◌+◌, ◌*◌, ◌≤◌, List, [], ◌∷◌, ◌++◌, length}
+use Rattle.std.specs.Prelude.{◌≡◌, ℕ, ◌+◌, ◌*◌, ◌≤◌, List, [], ◌∷◌, ◌++◌, Some, length, take, slice_get}
 use Rattle.rank_scripts.specs.Acts.{Act, Wait, posts_to, works, waits, until}
 use Rattle.rank_scripts.specs.Ranks.{sum_below}
 
@@ -11,6 +11,14 @@ pub record Scripts (L : Type 0) : Type 0 where
 -- the letters from rank p to rank q, in the order in which p posts them
 abbrev pub book : {L : Type 0} → Scripts L → ℕ → ℕ → List L
 book scripts p q = posts_to q (scripts.script p)
+
+-- the letters are the first of the book
+abbrev pub IsFrontOf : {L : Type 0} → List L → List L → Type 0
+IsFrontOf front book = take (length front) book ≡ front
+
+-- the letter stands in the book right behind these
+abbrev pub IsNextOf : {L : Type 0} → List L → List L → L → Type 0
+IsNextOf book before letter = slice_get book (length before) ≡ Some letter
 
 -- how many letters of rank q the wait of rank r that comes after m others names: all that q posts to r before its own
 -- wait that comes after m others

@@ -1,5 +1,5 @@
 use Rattle.rank_scripts.specs.Rounds.{nest_rounds}
-use Rattle.rank_scripts.proofs.RoundLemmas.{IsClosed-nests, book-nests, book-own, total-nests}
+use Rattle.rank_scripts.proofs.RoundLemmas.{IsClosed-nests, book-nests, book-own, total-nests, letters-nests}
 use Rattle.rank_scripts.proofs.nests_are_rounds.Goals as goal
 
 pub returns-clause-closed : goal.returns-clause-closed
@@ -13,3 +13,6 @@ returns-clause-own c = λ ranks nests request values p. book-own ranks p (nest_r
 
 pub returns-clause-total : goal.returns-clause-total
 returns-clause-total c = total-nests
+
+pub returns-clause-letters : goal.returns-clause-letters
+returns-clause-letters c = letters-nests
