@@ -6,5 +6,5 @@ pub mod CountLemmas
 pub mod PositionLemmas
 pub mod ProgressLemmas
 pub mod RoundLemmas
-pub mod TurnLemmas
+pub mod WaitLemmas
 pub mod BookLemmas

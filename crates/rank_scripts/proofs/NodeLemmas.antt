@@ -4,7 +4,7 @@ use Rattle.std.proofs.lemmas.Bool.{cond_both, cases_eq, leb-true, le-leb, eq-eqb
 use Rattle.rank_scripts.specs.Acts.{Act, Work, Post, Wait, posts_to, works, at_work, at_post, at_wait}
 use Rattle.rank_scripts.specs.Ranks.{put}
 use Rattle.rank_scripts.specs.Scripts.{Scripts, book, named}
-use Rattle.rank_scripts.specs.Nodes.{HasPassed, Node, has_all, behind, settle, fresh, worked, posted, took, IsPlace, NodeFit}
+use Rattle.rank_scripts.specs.Nodes.{HasAllBefore, Node, has_all, behind, settle, fresh, worked, posted, took, IsPlace, NodeFit}
 use Rattle.rank_scripts.proofs.RankLemmas.{put_both, all_below_at, all_below_from}
 use Rattle.rank_scripts.proofs.ActLemmas.{IsPlace-next}
 
@@ -43,7 +43,7 @@ posts_to-settle scripts r m acts given rest q = behind_any (has_all scripts r gi
 -- a settled node is fit
 pub settle_fit : {L : Type 0} (scripts : Scripts L) (r m : ℕ) (acts : List (Act L)) (given rest : ℕ → List L) →
     IsPlace (scripts.script r) m acts → ((q : ℕ) → rest q ≡ posts_to q acts) →
-    HasPassed scripts r given m → NodeFit scripts r (settle scripts r m acts given rest)
+    HasAllBefore scripts r given m → NodeFit scripts r (settle scripts r m acts given rest)
 settle_fit {L} scripts r m acts given rest place rests past =
     let passes : ℕ → Bool = has_all scripts r given in
     record {

@@ -1,6 +1,6 @@
 -- Scripts of rounds are closed, their books are the letters that are due, and how many events they take.
 use Rattle.std.proofs.Common.{◌≡◌, ℕ, zero, suc, ◌+◌, ◌-◌, ◌*◌, ◌<◌, ◌≤◌, cond, List, [], ◌∷◌, ◌++◌, ◌==◌, Option, Some, None, length, map, filter_map, sum_by, append-nil, append_assoc, refl, sym, ap, ◌∙◌, subst, ◌⊎◌, inl, inr, arith}
-use Rattle.std.specs.List.{flat_map, range_with_len, cons_option}
+use Rattle.std.specs.List.{range_with_len, cons_option}
 use Rattle.std.specs.Option.{option_to_list}
 use Rattle.std.proofs.lemmas.Bool.{cases_eq, cases_lt, eq-eqb, ne_eqb, cond_both}
 use Rattle.std.proofs.lemmas.List.Sums.{sum_by-cons}
@@ -8,7 +8,7 @@ use Rattle.std.proofs.lemmas.List.FromFn.{length-range_with_len}
 use Rattle.rank_scripts.specs.Acts.{Act, Work, Wait, posts_to, works, waits}
 use Rattle.rank_scripts.specs.Ranks.{sum_below}
 use Rattle.rank_scripts.specs.Scripts.{book, EndsPosting, IsClosed, letters, total}
-use Rattle.rank_scripts.specs.Rounds.{Round, due_of, post_due, posts_of, works_of, acts_of, scripts_of, letters_of, request_round, nest_round, nest_rounds, nest_scripts, values_due}
+use Rattle.rank_scripts.specs.Rounds.{posts_between, acts_of_all, Round, due_of, post_due, posts_of, works_of, acts_of, scripts_of, letters_of, request_round, nest_round, nest_rounds, nest_scripts, values_due}
 use Rattle.rank_scripts.proofs.RankLemmas.{sum_same, sum_change, sum_constant, sum_add}
 use Rattle.rank_scripts.proofs.ActLemmas.{posts_to-append, works-append, waits-append}
 
@@ -38,10 +38,6 @@ waits-post_due i (Some letter) = refl
 pub works-post_due : {L : Type 0} (i : ℕ) (letter : Option L) → works (post_due i letter) ≡ 0
 works-post_due i None = refl
 works-post_due i (Some letter) = refl
-
--- posts to the ranks a, a + 1, .. a + n - 1 of what is due to each
-abbrev pub posts_between : {L : Type 0} → (ℕ → Option L) → ℕ → ℕ → List (Act L)
-posts_between due a n = flat_map (λ q. post_due q (due q)) (range_with_len a n)
 
 pub waits-posts_between : {L : Type 0} (due : ℕ → Option L) (a n : ℕ) → waits (posts_between due a n) ≡ 0
 waits-posts_between due a zero = refl
@@ -101,33 +97,30 @@ works-round {L} ranks p round =
     omega arith
 
 -- all rounds
-abbrev pub round_acts : {L : Type 0} → ℕ → ℕ → List (Round L) → List (Act L)
-round_acts ranks p rounds = flat_map (acts_of ranks p) rounds
-
 pub waits-rounds : {L : Type 0} (ranks p : ℕ) (rounds : List (Round L)) →
-    waits (round_acts ranks p rounds) ≡ length rounds
+    waits (acts_of_all ranks p rounds) ≡ length rounds
 waits-rounds ranks p [] = refl
 waits-rounds ranks p (round ∷ rounds) =
-    let all = waits-append (acts_of ranks p round) (round_acts ranks p rounds) in
+    let all = waits-append (acts_of ranks p round) (acts_of_all ranks p rounds) in
     let first = waits-round ranks p round in
     let rest = waits-rounds ranks p rounds in
     omega arith
 
 pub works-rounds : {L : Type 0} (ranks p : ℕ) (rounds : List (Round L)) →
-    works (round_acts ranks p rounds) ≡ sum_by (λ (round : Round L). round.inner + round.outer) rounds
+    works (acts_of_all ranks p rounds) ≡ sum_by (λ (round : Round L). round.inner + round.outer) rounds
 works-rounds ranks p [] = refl
 works-rounds {L} ranks p (round ∷ rounds) =
-    let all = works-append (acts_of ranks p round) (round_acts ranks p rounds) in
+    let all = works-append (acts_of ranks p round) (acts_of_all ranks p rounds) in
     let first = works-round ranks p round in
     let rest = works-rounds ranks p rounds in
     let sum = sum_by-cons (λ (r : Round L). r.inner + r.outer) round rounds in
     omega arith
 
 pub posts_to-rounds_past : {L : Type 0} (ranks p q : ℕ) (rounds : List (Round L)) → ranks ≤ q →
-    posts_to q (round_acts ranks p rounds) ≡ []
+    posts_to q (acts_of_all ranks p rounds) ≡ []
 posts_to-rounds_past ranks p q [] past = refl
 posts_to-rounds_past ranks p q (round ∷ rounds) past =
-    posts_to-append q (acts_of ranks p round) (round_acts ranks p rounds) ∙
+    posts_to-append q (acts_of ranks p round) (acts_of_all ranks p rounds) ∙
     rw (posts_to-round ranks p q round, posts_to-past (λ i. due_of p i round) q 0 ranks (inr (omega arith))) (posts_to-rounds_past ranks p q rounds past)
 
 -- a book is the letters that are due
@@ -137,10 +130,10 @@ cons_option-append None rest = refl
 cons_option-append (Some x) rest = refl
 
 pub posts_to-rounds : {L : Type 0} (ranks p q : ℕ) (rounds : List (Round L)) → q < ranks →
-    posts_to q (round_acts ranks p rounds) ≡ letters_of p q rounds
+    posts_to q (acts_of_all ranks p rounds) ≡ letters_of p q rounds
 posts_to-rounds ranks p q [] there = refl
 posts_to-rounds ranks p q (round ∷ rounds) there =
-    posts_to-append q (acts_of ranks p round) (round_acts ranks p rounds) ∙
+    posts_to-append q (acts_of ranks p round) (acts_of_all ranks p rounds) ∙
     rw (posts_to-round ranks p q round, posts_to-there (λ i. due_of p i round) q 0 ranks (omega arith) (omega arith), posts_to-rounds ranks p q rounds there) (sym (cons_option-append (due_of p q round) (letters_of p q rounds)))
 
 pub book-rounds : {L : Type 0} (ranks : ℕ) (rounds : List (Round L)) (p q : ℕ) → q < ranks →
@@ -182,9 +175,9 @@ EndsPosting-round {L} ranks p round =
     }
 
 pub EndsPosting-rounds : {L : Type 0} (ranks p : ℕ) (first : Round L) (rounds : List (Round L)) →
-    EndsPosting (round_acts ranks p (first ∷ rounds))
+    EndsPosting (acts_of_all ranks p (first ∷ rounds))
 EndsPosting-rounds ranks p first [] = rw (append-nil (acts_of ranks p first)) (EndsPosting-round ranks p first)
-EndsPosting-rounds ranks p first (second ∷ rounds) = EndsPosting-append (acts_of ranks p first) (round_acts ranks p (second ∷ rounds)) (EndsPosting-rounds ranks p second rounds)
+EndsPosting-rounds ranks p first (second ∷ rounds) = EndsPosting-append (acts_of ranks p first) (acts_of_all ranks p (second ∷ rounds)) (EndsPosting-rounds ranks p second rounds)
 
 pub IsClosed-rounds : {L : Type 0} (ranks : ℕ) (first : Round L) (rounds : List (Round L)) →
     IsClosed (scripts_of ranks (first ∷ rounds))
@@ -192,14 +185,14 @@ IsClosed-rounds ranks first rounds =
     record {
       within = λ p q past. posts_to-rounds_past ranks p q (first ∷ rounds) past;
       alike = λ p q. waits-rounds ranks p (first ∷ rounds) ∙ sym (waits-rounds ranks q (first ∷ rounds));
-      ends = λ p. EndsPosting-append (Work ∷ []) (round_acts ranks p (first ∷ rounds)) (EndsPosting-rounds ranks p first rounds);
+      ends = λ p. EndsPosting-append (Work ∷ []) (acts_of_all ranks p (first ∷ rounds)) (EndsPosting-rounds ranks p first rounds);
     }
 
 -- how many events rounds take
 pub total-rounds : {L : Type 0} (ranks : ℕ) (rounds : List (Round L)) →
     total (scripts_of ranks rounds) ≡ ranks * (1 + sum_by (λ (round : Round L). round.inner + round.outer) rounds) + 2 * letters (scripts_of ranks rounds)
 total-rounds {L} ranks rounds =
-    let each = sum_same ranks (λ p. works (Work ∷ round_acts ranks p rounds)) (λ p. 1 + sum_by (λ (round : Round L). round.inner + round.outer) rounds)
+    let each = sum_same ranks (λ p. works (Work ∷ acts_of_all ranks p rounds)) (λ p. 1 + sum_by (λ (round : Round L). round.inner + round.outer) rounds)
     (λ p h. let counted = works-rounds ranks p rounds in omega arith) in
     let same = sum_constant ranks (1 + sum_by (λ (round : Round L). round.inner + round.outer) rounds) in
     omega arith

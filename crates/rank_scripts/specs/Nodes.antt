@@ -21,8 +21,8 @@ abbrev pub has_all : {L : Type 0} → Scripts L → ℕ → (ℕ → List L) →
 has_all scripts r given m = all_below scripts.ranks (λ q. nat_le (named scripts r m q) (length (given q)))
 
 -- rank r was given all that its first m waits name
-abbrev pub HasPassed : {L : Type 0} → Scripts L → ℕ → (ℕ → List L) → ℕ → Type 0
-HasPassed scripts r given m = (k : ℕ) → k < m → has_all scripts r given k ≡ true
+abbrev pub HasAllBefore : {L : Type 0} → Scripts L → ℕ → (ℕ → List L) → ℕ → Type 0
+HasAllBefore scripts r given m = (k : ℕ) → k < m → has_all scripts r given k ≡ true
 
 -- goes on behind each wait that the test lets pass
 abbrev pub behind : {L : Type 0} → (ℕ → Bool) → ℕ → List (Act L) → Position L
@@ -77,6 +77,6 @@ pub record NodeFit {L : Type 0} (scripts : Scripts L) (r : ℕ) (node : Node L) 
   -- what it has still to post is what its position posts
   pub rests : (q : ℕ) → node.rest q ≡ posts_to q node.todo
   -- it was given what the waits behind it name
-  pub past : HasPassed scripts r node.given node.passed
+  pub past : HasAllBefore scripts r node.given node.passed
   -- it was not given all that the wait at which it stands names
   pub waiting : at_wait node.todo ≡ true → has_all scripts r node.given node.passed ≡ false

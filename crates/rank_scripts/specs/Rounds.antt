@@ -16,13 +16,18 @@ pub record Round (L : Type 0) : Type 0 where
 abbrev pub due_of : {L : Type 0} → ℕ → ℕ → Round L → Option L
 due_of p q round = if p == q then None else round.due p q
 
+-- the post of a letter, if there is one
 abbrev pub post_due : {L : Type 0} → ℕ → Option L → List (Act L)
 post_due q None = []
 post_due q (Some letter) = Post q letter ∷ []
 
+-- posts to the ranks a, a + 1, .. a + n - 1 of what is due to each
+abbrev pub posts_between : {L : Type 0} → (ℕ → Option L) → ℕ → ℕ → List (Act L)
+posts_between due a n = flat_map (λ q. post_due q (due q)) (range_with_len a n)
+
 -- rank p's posts of a round, by rising receiver
 abbrev pub posts_of : {L : Type 0} → ℕ → ℕ → Round L → List (Act L)
-posts_of ranks p round = flat_map (λ q. post_due q (due_of p q round)) (range_with_len 0 ranks)
+posts_of ranks p round = posts_between (λ q. due_of p q round) 0 ranks
 
 -- so much work
 abbrev pub works_of : {L : Type 0} → ℕ → List (Act L)
@@ -33,9 +38,13 @@ abbrev pub acts_of : {L : Type 0} → ℕ → ℕ → Round L → List (Act L)
 acts_of ranks p round =
     posts_of ranks p round ++ (works_of round.inner ++ Wait ∷ works_of round.outer)
 
--- the scripts of these rounds: a first work, and then round after round
+-- what it does round after round
+abbrev pub acts_of_all : {L : Type 0} → ℕ → ℕ → List (Round L) → List (Act L)
+acts_of_all ranks p rounds = flat_map (acts_of ranks p) rounds
+
+-- the scripts of these rounds: a first work, and then the rounds
 abbrev pub scripts_of : {L : Type 0} → ℕ → List (Round L) → Scripts L
-scripts_of ranks rounds = record { ranks = ranks; script = λ p. Work ∷ flat_map (acts_of ranks p) rounds }
+scripts_of ranks rounds = record { ranks = ranks; script = λ p. Work ∷ acts_of_all ranks p rounds }
 
 -- the letters from p to q that are due in these rounds, in order
 abbrev pub letters_of : {L : Type 0} → ℕ → ℕ → List (Round L) → List L
@@ -62,14 +71,14 @@ values_due ranks nests values =
     if p == q then 0 else length (filter_map (λ nest. values nest p q) (range_with_len 0 nests))))
 
 -- the letter from q to r that is due in round m
-abbrev pub turn_letter : {L : Type 0} → List (Round L) → ℕ → ℕ → ℕ → Option L
-turn_letter rounds m q r = option_and_then (due_of q r) (slice_get rounds m)
+abbrev pub round_letter : {L : Type 0} → List (Round L) → ℕ → ℕ → ℕ → Option L
+round_letter rounds m q r = option_and_then (due_of q r) (slice_get rounds m)
 
 -- rank r took the letter of round m from q, if one is due: it took more letters of q than the earlier rounds have
-abbrev pub turn_given : {L : Type 0} → List (Round L) → ℕ → (ℕ → List L) → ℕ → ℕ → Bool
-turn_given rounds r given m q =
-    if is_none (turn_letter rounds m q r) then true else nat_lt (length (letters_of q r (take m rounds))) (length (given q))
+abbrev pub round_given : {L : Type 0} → List (Round L) → ℕ → (ℕ → List L) → ℕ → ℕ → Bool
+round_given rounds r given m q =
+    if is_none (round_letter rounds m q r) then true else nat_lt (length (letters_of q r (take m rounds))) (length (given q))
 
 -- the other reading of a wait: that of round m names the letters of round m alone
-abbrev pub has_turn : {L : Type 0} → ℕ → List (Round L) → ℕ → (ℕ → List L) → ℕ → Bool
-has_turn ranks rounds r given m = all_below ranks (λ q. turn_given rounds r given m q)
+abbrev pub has_round : {L : Type 0} → ℕ → List (Round L) → ℕ → (ℕ → List L) → ℕ → Bool
+has_round ranks rounds r given m = all_below ranks (λ q. round_given rounds r given m q)

@@ -9,10 +9,10 @@ ghost use Rattle.std.specs.List.{range_with_len};
 ghost use Rattle.bern_base.specs.declared.letter.Letter.{Letter};
 ghost use Rattle.rank_scripts.specs.Acts.{Act, receiver};
 ghost use Rattle.rank_scripts.specs.Scripts.{Scripts, IsClosed, book, letters, total};
-ghost use Rattle.rank_scripts.specs.Nodes.{HasPassed, behind, has_all};
+ghost use Rattle.rank_scripts.specs.Nodes.{HasAllBefore, behind, has_all};
 ghost use Rattle.rank_scripts.specs.Worlds.{World, Event, Posts, Takes, Fit, start, step, run, can, accepted, done};
 ghost use Rattle.rank_scripts.specs.Orders.{GoesOn, Finishes, PostsNext, TakesNext, IsDelivered};
-ghost use Rattle.rank_scripts.specs.Rounds.{Round, scripts_of, letters_of, nest_scripts, values_due, has_turn};
+ghost use Rattle.rank_scripts.specs.Rounds.{Round, scripts_of, letters_of, nest_scripts, values_due, has_round};
 ghost use Rattle.rank_scripts.specs.Examples.{two_ranks, two_ranks_events, IsDrawn};
 
 /// Whatever happens, in whatever order, each rank keeps to its script and each book stays whole.
@@ -91,11 +91,11 @@ pub fn nests_are_rounds()
 /// stops, so it covers a rank that passes several waits at once.
 pub fn waits_name_their_round()
     ensures wait { (ranks : ℕ) (rounds : List (Round Letter)) (r : ℕ) (given : ℕ → List Letter) (m : ℕ) →
-        r < ranks → HasPassed (scripts_of ranks rounds) r given m →
-        has_all (scripts_of ranks rounds) r given m ≡ has_turn ranks rounds r given m }
+        r < ranks → HasAllBefore (scripts_of ranks rounds) r given m →
+        has_all (scripts_of ranks rounds) r given m ≡ has_round ranks rounds r given m }
     ensures stop { (ranks : ℕ) (rounds : List (Round Letter)) (r : ℕ) (given : ℕ → List Letter) (m : ℕ) (acts : List (Act Letter)) →
-        r < ranks → HasPassed (scripts_of ranks rounds) r given m →
-        behind (has_all (scripts_of ranks rounds) r given) m acts ≡ behind (has_turn ranks rounds r given) m acts }
+        r < ranks → HasAllBefore (scripts_of ranks rounds) r given m →
+        behind (has_all (scripts_of ranks rounds) r given) m acts ≡ behind (has_round ranks rounds r given) m acts }
 {}
 
 /// The number of events, worked out, and one run by hand.
