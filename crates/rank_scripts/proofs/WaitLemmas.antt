@@ -127,11 +127,15 @@ slice_get-take (suc n) [] i h = refl
 slice_get-take (suc n) (x ∷ xs) zero h = refl
 slice_get-take (suc n) (x ∷ xs) (suc i) h = slice_get-take n xs i (omega arith)
 
-pub letters_of-split : {L : Type 0} (rounds : List (Round L)) (m q r : ℕ) → letters_of q r (take m rounds) ++ letters_of q r (drop m rounds) ≡ letters_of q r rounds
+pub letters_of-split : {L : Type 0} (rounds : List (Round L)) (m q r : ℕ) →
+    letters_of q r (take m rounds) ++ letters_of q r (drop m rounds) ≡ letters_of q r rounds
 letters_of-split rounds m q r =
     sym (filter_map-append (due_of q r) (take m rounds) (drop m rounds)) ∙ ap (letters_of q r) (take-append-drop m rounds)
 
-pub given-letter : {L : Type 0} (ranks : ℕ) (rounds : List (Round L)) (r : ℕ) (given : ℕ → List L) (m q : ℕ) (letter : L) → r < ranks → q < ranks → has_all (scripts_of ranks rounds) r given m ≡ true → IsFrontOf (given q) (book (scripts_of ranks rounds) q r) → round_letter rounds m q r ≡ Some letter → slice_get (given q) (length (letters_of q r (take m rounds))) ≡ Some letter
+pub given-letter : {L : Type 0} (ranks : ℕ) (rounds : List (Round L)) (r : ℕ) (given : ℕ → List L) (m q : ℕ) (letter : L) →
+    r < ranks → q < ranks → has_all (scripts_of ranks rounds) r given m ≡ true →
+    IsFrontOf (given q) (book (scripts_of ranks rounds) q r) → round_letter rounds m q r ≡ Some letter →
+    slice_get (given q) (length (letters_of q r (take m rounds))) ≡ Some letter
 given-letter {L} ranks rounds r given m q letter there q_there all front due =
     let before = letters_of q r (take m rounds) in
     let after = letters_of q r (drop (suc m) rounds) in
