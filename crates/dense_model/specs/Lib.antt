@@ -1,1 +1,3 @@
 pub mod ArrayText
+pub mod Dense
+pub mod State

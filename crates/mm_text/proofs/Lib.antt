@@ -1,3 +1,4 @@
+pub mod AppendLemmas
 pub mod LinesLemmas
 pub mod PlacesLemmas
 pub mod EntriesLemmas

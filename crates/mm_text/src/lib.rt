@@ -3,6 +3,7 @@
 //! Rows and columns count from 0 here. In a file they count from 1, and so do the lines of a refusal; line 0 stands for the file as a whole.
 #![tactic(auto)]
 
+mod array;
 mod banner;
 mod counting;
 mod due;
@@ -20,8 +21,11 @@ mod stepping;
 mod sums;
 mod table;
 mod taking;
+#[cfg(test)]
+mod tests;
 mod word_list;
 
+pub use array::write_array;
 pub use error::{FeedError, MmError};
 pub use feed::MatrixFeed;
 pub use pieces::read_matrix;

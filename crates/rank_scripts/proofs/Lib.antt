@@ -1,0 +1,10 @@
+pub mod RankLemmas
+pub mod ActLemmas
+pub mod NodeLemmas
+pub mod WorldLemmas
+pub mod CountLemmas
+pub mod PositionLemmas
+pub mod ProgressLemmas
+pub mod RoundLemmas
+pub mod WaitLemmas
+pub mod BookLemmas
