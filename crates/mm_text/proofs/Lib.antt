@@ -4,3 +4,4 @@ pub mod PlacesLemmas
 pub mod EntriesLemmas
 pub mod SumsLemmas
 pub mod FeedingLemmas
+pub mod PrintedNumbers

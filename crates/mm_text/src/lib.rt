@@ -13,6 +13,8 @@ mod feed;
 mod feeding;
 mod numerals;
 mod pieces;
+#[cfg(test)]
+mod reader_tests;
 mod reading;
 mod room;
 mod size_line;
