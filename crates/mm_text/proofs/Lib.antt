@@ -5,3 +5,6 @@ pub mod EntriesLemmas
 pub mod SumsLemmas
 pub mod FeedingLemmas
 pub mod PrintedNumbers
+pub mod PrintedLines
+pub mod Grids
+pub mod PrintedArrayLemmas

@@ -1,16 +1,16 @@
 -- Printed numbers are words that spell them.
-use Rattle.std.proofs.Common.{◌≡◌, ℕ, zero, suc, ◌+◌, ◌-◌, ◌*◌, ◌/◌, ◌%◌, ◌^◌, ◌<◌, ◌≤◌, Bool, true, false, ◌&&◌, ◌||◌, ◌==◌, not, nat_lt, nat_le, if◌then◌else◌, List, [], ◌∷◌, ◌++◌, length, get_or, drop, refl, sym, ap, subst, ◌∙◌, inl, inr, arith}
-use Rattle.std.specs.Prelude.{decimal, fold}
+use Rattle.std.proofs.Common.{◌≡◌, ℕ, suc, ◌+◌, ◌-◌, ◌*◌, ◌/◌, ◌%◌, ◌^◌, ◌<◌, ◌≤◌, Bool, true, false, ◌||◌, ◌==◌, nat_le, List, [], ◌∷◌, ◌++◌, length, refl, subst, ◌∙◌, inl, inr, arith}
+use Rattle.std.specs.Prelude.{decimal}
 use Rattle.std.specs.Fmt.{signed_decimal}
-use Rattle.std.specs.List.{list_all, list_any}
-use Rattle.std.proofs.lemmas.Bool.{cases_lt, cases_Bool, and_parts, and_from, or_cases, le-leb, lt-leb, leb-true, eqb-true, ne_eqb, lt-ltb, le-ltb}
+use Rattle.std.specs.List.{list_all}
+use Rattle.std.proofs.lemmas.Bool.{cases_lt, and_parts, and_from, le-leb, lt-leb, leb-true, ne_eqb, lt-ltb, le-ltb}
 use Rattle.std.proofs.lemmas.List.{length_push}
 use Rattle.std.proofs.lemmas.List.Folds.{list_all-append}
 use Rattle.std.proofs.lemmas.List.Sums.{fold_push}
 use Rattle.std.proofs.lemmas.Fmt.{decimal_by_steps}
 use Rattle.std.proofs.Math.Nat.{mod-eq_of_lt}
 use Rattle.bern_base.specs.Ring.{signed_of}
-use Rattle.mm_profile.specs.Numbers.{is_digit, is_natural, natural, is_minus, is_plus, unsigned, is_integer, integer, is_outside, value_of}
+use Rattle.mm_profile.specs.Numbers.{is_digit, is_natural, natural, is_integer, integer, is_outside, value_of}
 
 -- digits that spell a number
 pub record Spells (n : ℕ) (w : List ℕ) : Type 0 where
@@ -48,7 +48,7 @@ is_plain b = is_digit b || b == 45
 pub record Printed (v : ℕ) (w : List ℕ) : Type 0 where
   pub some : 0 < length w
   pub plain : list_all is_plain w ≡ true
-  pub integer : is_integer w ≡ true
+  pub spelled : is_integer w ≡ true
   pub inside : is_outside (integer w) ≡ false
   pub value : value_of (integer w) ≡ v
 
@@ -70,7 +70,7 @@ printed-digits n (b ∷ w) below s =
     record {
       some = s.some;
       plain = digits-plain (b ∷ w) s.digits;
-      integer = rw (minus, plus) s.digits;
+      spelled = rw (minus, plus) s.digits;
       inside = rw (minus, plus) (rw s.is (lt-leb (2 ^ 64) n below));
       value = rw (minus, plus) s.is;
     }
@@ -80,14 +80,18 @@ printed-minus n w above below s =
     record {
       some = omega arith;
       plain = digits-plain w s.digits;
-      integer = spells-is_natural n w s;
+      spelled = spells-is_natural n w s;
       inside = rw s.is (le-ltb (2 ^ 63) n below);
-      value = rw s.is (mod-eq_of_lt ?);
+      value = rw s.is (mod-eq_of_lt (omega arith));
     }
 
 pub printed-signed : (v : ℕ) → v < 2 ^ 64 → Printed v (signed_decimal (signed_of v))
 printed-signed v fits =
     elim (cases_lt v (2 ^ 63)) [
-      inl below ↦ rw (lt-ltb v (2 ^ 63) below) (printed-digits v (decimal v) fits (spells-decimal v fits))
-      | inr above ↦ rw (le-ltb v (2 ^ 63) above) ?
+      | inl below ↦ rw (lt-ltb v (2 ^ 63) below) (printed-digits v (decimal v) fits (spells-decimal v fits))
+      | inr above ↦
+          let back : 2 ^ 64 - suc (2 ^ 64 - 1 - v) ≡ v = omega arith in
+          rw (le-ltb v (2 ^ 63) above)
+          (subst (λ u. Printed u (45 ∷ decimal (suc (2 ^ 64 - 1 - v)))) back
+          (printed-minus (suc (2 ^ 64 - 1 - v)) (decimal (suc (2 ^ 64 - 1 - v))) (omega arith) (omega arith) (spells-decimal (suc (2 ^ 64 - 1 - v)) (omega arith))))
     ]

@@ -6,3 +6,4 @@ pub mod Tables
 pub mod Stages
 pub mod Readings
 pub mod Feeds
+pub mod PrintedArrays

@@ -13,6 +13,7 @@ mod feed;
 mod feeding;
 mod numerals;
 mod pieces;
+mod printed;
 #[cfg(test)]
 mod reader_tests;
 mod reading;
@@ -31,3 +32,4 @@ pub use array::write_array;
 pub use error::{FeedError, MmError};
 pub use feed::MatrixFeed;
 pub use pieces::read_matrix;
+pub use printed::printed_arrays_are_read;
