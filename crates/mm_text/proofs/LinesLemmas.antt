@@ -1,8 +1,11 @@
 -- Lines and words, piece by piece.
-use Rattle.std.proofs.Common.{◌≡◌, ℕ, suc, ◌+◌, ◌<◌, ◌≤◌, Bool, true, false, not, List, [], ◌∷◌, ◌++◌, length, take, drop, get_or, refl, ap, ◌∙◌, inl, inr, arith, ◌==◌}
-use Rattle.std.proofs.lemmas.Bool.{cases_Bool, or_parts, not-true, cases_lt, lt-ltb, le-ltb}
-use Rattle.std.proofs.lemmas.List.{get_or-drop, length-drop, nil_from_length}
-use Rattle.std.proofs.lemmas.List.Sums.{passes_at_first, prefix_len-le-length}
+use Rattle.std.proofs.Common.{◌≡◌, nat_le, ℕ, suc, ◌+◌, ◌<◌, ◌≤◌, Bool, true, false, not, List, [], ◌∷◌, ◌++◌, length, take, drop, get_or, refl, ap, ◌∙◌, inl, inr, arith, ◌==◌}
+use Rattle.std.proofs.lemmas.Bool.{cases_Bool, or_parts, or_from, not-true, cases_lt, cases_eq, lt-ltb, le-ltb, leb-true, ne_eqb, and_parts, and_right, both_ways}
+use Rattle.std.proofs.lemmas.List.Folds.{list_all_at}
+use Rattle.std.specs.List.{list_all}
+use Rattle.mm_profile.specs.Numbers.{is_digit, is_natural}
+use Rattle.std.proofs.lemmas.List.{get_or-drop, get_or-take, length-drop, length-take, nil_from_length}
+use Rattle.std.proofs.lemmas.List.Sums.{passes_at_first, position_or_len_is, prefix_len-le-length, AllPass-from_list_all}
 use Rattle.std.specs.Prelude.{position, unwrap_or}
 use Rattle.std.proofs.Math.Nat.{add-zero}
 use Rattle.std.specs.List.{position_or_len, list_any}
@@ -68,7 +71,7 @@ words_step (x ∷ xs) some first =
     let two : suc (position_or_len is_blank xs) + 1 ≡ suc (position_or_len is_blank xs + 1) = omega arith in
     rw (cut_step is_blank (x ∷ xs) some) (rw (first, one, two) (ap (λ ws. (x ∷ take (position_or_len is_blank xs) xs) ∷ ws) (words_rest xs)))
 
-first_byte : (xs : List ℕ) → 0 < length (from_word xs) → is_blank (get_or (from_word xs) 0 0) ≡ false
+pub first_byte : (xs : List ℕ) → 0 < length (from_word xs) → is_blank (get_or (from_word xs) 0 0) ≡ false
 first_byte xs some =
     let n = position_or_len (λ b. not (is_blank b)) xs in
     let inside : n < length xs = omega (arith, some, length-drop n xs) in
@@ -93,6 +96,39 @@ skipped_none xs none = rw (words_none xs none) refl
 
 pub skipped_first : (xs : List ℕ) → 0 < length (from_word xs) → is_skipped (words xs) ≡ (get_or (from_word xs) 0 0 == 37)
 skipped_first xs some = rw (words_next xs some) (ap (λ b. b == 37) (word_first (from_word xs) some (first_byte xs some)))
+
+digit-blank : (b : ℕ) → is_digit b ≡ true → is_blank b ≡ false
+digit-blank b digit =
+    let above : 48 ≤ b = leb-true 48 b (and_parts (nat_le 48 b) (nat_le b 57) digit).0 in
+    or_from _ _ (ne_eqb b 32 (λ e. omega (arith, e, above))) (ne_eqb b 9 (λ e. omega (arith, e, above)))
+
+-- no blank stands among digits
+digits-blank : (xs : List ℕ) (k j : ℕ) → list_all is_digit (take k xs) ≡ true → j < k → j < length xs → is_blank (get_or xs j 0) ≡ false
+digits-blank xs k j digits below inside =
+    let within : j < length (take k xs) = omega (arith, length-take k xs, below, inside) in
+    digit-blank (get_or xs j 0) (rw (← get_or-take k xs j 0 below) (AllPass-from_list_all is_digit (take k xs) digits j 0 within))
+
+-- a word of digits ends at a blank or at the end of the line
+pub digits-end : (xs : List ℕ) (k : ℕ) → k ≤ length xs → list_all is_digit (take k xs) ≡ true → (k < length xs → is_blank (get_or xs k 0) ≡ true) → position_or_len is_blank xs ≡ k
+digits-end xs k within digits end =
+    position_or_len_is is_blank xs k 0 within (λ j below. digits-blank xs k j digits below (omega (arith, below, within))) end
+
+-- a word with a byte that is no digit is no number
+pub other-natural : (xs : List ℕ) (k : ℕ) → list_all is_digit (take k xs) ≡ true → k < length xs → is_digit (get_or xs k 0) ≡ false → is_blank (get_or xs k 0) ≡ false
+    → is_natural (take (position_or_len is_blank xs) xs) ≡ false
+other-natural xs k digits inside other dark =
+    let n = position_or_len is_blank xs in
+    let later : k < n = elim (cases_lt k n) [ inl below ↦ below | inr above ↦ absurd (early above) ] in
+    let place : k < length (take n xs) = omega (arith, length-take n xs, later, inside) in
+    and_right _ _ (list_all_at is_digit (take n xs) k 0 place (rw (get_or-take n xs k 0 later) other))
+  where
+    early : position_or_len is_blank xs ≤ k → ⊥
+    early above =
+        let found = passes_at_first is_blank xs 0 (omega (arith, above, inside)) in
+        elim (cases_eq (position_or_len is_blank xs) k) [
+          inl same ↦ both_ways _ dark (rw same at found)
+          | inr ne ↦ both_ways _ (digits-blank xs k (position_or_len is_blank xs) digits (omega (arith, above, ne)) (omega (arith, above, inside))) found
+        ]
 
 -- the place of the first byte that passes, or the end
 pub unwrap_or-position : (p : ℕ → Bool) (xs : List ℕ) → unwrap_or (position p xs) (length xs) ≡ position_or_len p xs

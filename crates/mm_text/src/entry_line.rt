@@ -7,9 +7,10 @@ ghost use Rattle.mm_profile.specs.Entries.{mirrored, is_skew, counted_of, valued
 ghost use Rattle.mm_text.specs.Naturals.{StandsFor, IsNumber};
 ghost use Rattle.mm_text.specs.Counts.{counted_list, listed, are_inside};
 
-use crate::numerals::{Natural, Number, read_integer, read_natural};
+use crate::number_words::next_natural;
+use crate::numerals::{Natural, Number, read_integer};
 use crate::size_line::two_numbers;
-use crate::word_list::{one_word, three_words};
+use crate::word_list::one_word;
 use bern_base::{Entry, Rule, Val};
 use mm_profile::{Field, Head, Symmetry};
 
@@ -105,10 +106,9 @@ fn placed(head: &Head, row: Natural, col: Natural, number: Number) -> Result<Cou
 fn place_and_value(line: &[u8]) -> Option<(Natural, Natural, Number)>
     ensures { MatchOption result (is_stated_line Field.Integer (words line.now) ≡ false) (λ n. (is_stated_line Field.Integer (words line.now) ≡ true) × StandsFor n.0 (number_at (words line.now) 0) × StandsFor n.1 (number_at (words line.now) 1) × IsNumber n.2 (integer (word_at (words line.now) 2))) }
 {
-    let (row, col, value) = three_words(line)?;
-    let row = read_natural(row)?;
-    let col = read_natural(col)?;
-    let value = read_integer(value)?;
+    let (row, after_row) = next_natural(line)?;
+    let (col, after_col) = next_natural(after_row)?;
+    let value = read_integer(one_word(after_col)?)?;
     Some((row, col, value))
 }
 

@@ -11,6 +11,7 @@ mod entry_line;
 mod error;
 mod feed;
 mod feeding;
+mod number_words;
 mod numerals;
 mod pieces;
 mod printed;

@@ -1,4 +1,5 @@
-ghost use Rattle.std.specs.Prelude.{◌≡◌, ℕ, ◌+◌, ◌*◌, ◌<◌, true, false, MatchOption};
+ghost use Rattle.std.specs.Prelude.{◌≡◌, ℕ, ◌+◌, ◌*◌, ◌<◌, ◌≤◌, length, take, slice_index, true, false, IfSome, MatchOption};
+ghost use Rattle.std.specs.List.{list_all};
 ghost use Rattle.mm_profile.specs.Numbers.{is_digit, is_natural, natural, is_minus, is_plus, unsigned, is_integer, integer};
 ghost use Rattle.mm_text.specs.Naturals.{StandsFor, IsNumber};
 
@@ -39,14 +40,37 @@ impl Natural {
     }
 }
 
+/// The greatest number to which a digit can be appended, whatever it is.
+const LAST_FRONT: u64 = 1_844_674_407_370_955_160;
+
 fn is_digit(byte: u8) -> bool
     ensures { result ≡ is_digit byte }
 {
     byte >= b'0' && byte <= b'9'
 }
 
-/// The number that a word spells by digits.
-pub(crate) fn read_natural(word: &[u8]) -> Option<Natural>
+/// The number that the digits at the front spell, and how many they are; none where it might not fit.
+pub(crate) fn digits_front(bytes: &[u8]) -> Option<(u64, usize)>
+    ensures within { IfSome result (λ n. n.1 ≤ length bytes.now) }
+    ensures digits { IfSome result (λ n. list_all is_digit (take n.1 bytes.now) ≡ true) }
+    ensures number { IfSome result (λ n. n.0 ≡ natural (take n.1 bytes.now)) }
+    ensures all { IfSome result (λ n. n.1 < length bytes.now → is_digit (slice_index bytes.now n.1) ≡ false) }
+{
+    let mut number: u64 = 0;
+    for (at, byte) in bytes.iter().enumerate() {
+        if !is_digit(*byte) {
+            return Some((number, at));
+        }
+        if number > LAST_FRONT {
+            return None;
+        }
+        number = number * 10 + (*byte - b'0') as u64;
+    }
+    Some((number, bytes.len()))
+}
+
+/// The number that a word of any length spells by digits.
+fn long_natural(word: &[u8]) -> Option<Natural>
     ensures { MatchOption result (is_natural word.now ≡ false) (λ n. (is_natural word.now ≡ true) × StandsFor n (natural word.now)) }
 {
     if word.is_empty() {
@@ -60,6 +84,19 @@ pub(crate) fn read_natural(word: &[u8]) -> Option<Natural>
         number = number.with_digit(*byte - b'0');
     }
     Some(number)
+}
+
+/// The number that a word spells by digits.
+pub(crate) fn read_natural(word: &[u8]) -> Option<Natural>
+    ensures { MatchOption result (is_natural word.now ≡ false) (λ n. (is_natural word.now ≡ true) × StandsFor n (natural word.now)) }
+{
+    let Some((number, len)) = digits_front(word) else {
+        return long_natural(word);
+    };
+    if len == 0 || len < word.len() {
+        return None;
+    }
+    Some(Natural::Small(number))
 }
 
 fn is_minus(word: &[u8]) -> bool

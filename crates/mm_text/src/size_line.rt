@@ -3,8 +3,9 @@ ghost use Rattle.mm_profile.specs.Lines.{words};
 ghost use Rattle.mm_profile.specs.Sizes.{number_at, are_numbers, is_general, is_square, square_head, limited_head, head_of};
 ghost use Rattle.mm_text.specs.Naturals.{StandsFor};
 
+use crate::number_words::next_natural;
 use crate::numerals::{Natural, read_natural};
-use crate::word_list::{three_words, two_words};
+use crate::word_list::{next_word, three_words};
 use bern_base::Rule;
 use mm_profile::{Format, Head, Kind, Symmetry};
 
@@ -16,9 +17,11 @@ const MAX_STATED: u32 = 16_777_216;
 pub(crate) fn two_numbers(line: &[u8]) -> Option<(Natural, Natural)>
     ensures { MatchOption result (are_numbers 2 (words line.now) ≡ false) (λ n. (are_numbers 2 (words line.now) ≡ true) × StandsFor n.0 (number_at (words line.now) 0) × StandsFor n.1 (number_at (words line.now) 1)) }
 {
-    let (first, second) = two_words(line)?;
-    let first = read_natural(first)?;
-    let second = read_natural(second)?;
+    let (first, after_first) = next_natural(line)?;
+    let (second, after_second) = next_natural(after_first)?;
+    if next_word(after_second).is_some() {
+        return None;
+    }
     Some((first, second))
 }
 

@@ -14,7 +14,7 @@ pub(crate) fn without_return(line: &[u8]) -> &[u8]
     line
 }
 
-fn is_blank(byte: u8) -> bool
+pub(crate) fn is_blank(byte: u8) -> bool
     ensures { result ≡ is_blank byte }
 {
     byte == b' ' || byte == b'\t'
@@ -33,7 +33,7 @@ fn blank_at(line: &[u8]) -> Option<usize>
 }
 
 /// The line from its first word on.
-fn from_word(line: &[u8]) -> &[u8]
+pub(crate) fn from_word(line: &[u8]) -> &[u8]
     ensures { result.now ≡ drop (position_or_len (λ b. not (is_blank b)) line.now) line.now }
 {
     match word_at(line) {

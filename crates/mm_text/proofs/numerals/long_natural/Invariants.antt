@@ -3,7 +3,7 @@ use Rattle.std.proofs.Common.{◌≡◌, true, take}
 use Rattle.std.specs.List.{list_all}
 use Rattle.mm_profile.specs.Numbers.{is_digit, natural}
 use Rattle.mm_text.specs.Naturals.{StandsFor}
-use Rattle.mm_text.proofs.numerals.read_natural.Given as goal
+use Rattle.mm_text.proofs.numerals.long_natural.Given as goal
 
 abbrev pub invariant-loop-byte : goal.invariant-loop-byte
 invariant-loop-byte l = record {
