@@ -1,8 +1,10 @@
 -- A file in pieces: its lines are those of the pieces put together.
 use Rattle.std.proofs.Common.{◌≡◌, ℕ, ◌+◌, ◌<◌, ◌≤◌, Bool, false, List, [], ◌∷◌, ◌++◌, length, take, drop, map, refl, sym, ap, ◌∙◌, inl, inr, arith, Some, None, append_assoc}
-use Rattle.std.specs.Prelude.{position}
+use Rattle.std.specs.Prelude.{position, Option}
 use Rattle.std.specs.List.{position_or_len, list_any}
-use Rattle.std.proofs.lemmas.Bool.{cases_Bool, cases_lt, or_from, eqb-true, lt-ltb}
+use Rattle.std.proofs.lemmas.Bool.{cases_Bool, cases_lt, or_from, eqb-true, lt-ltb, le-ltb, false_from_ne_true}
+use Rattle.std.proofs.lemmas.List.Sums.{position_or_len_is}
+use Rattle.memchr.specs.Find.{IsFirstByte, is_byte}
 use Rattle.std.proofs.lemmas.List.{append-nil, drop_more, take-append-drop, get_or-take, length-take}
 use Rattle.std.proofs.lemmas.List.Quantifiers.{position-Some}
 use Rattle.std.proofs.lemmas.List.Folds.{list_any-append, list_any_none}
@@ -14,6 +16,11 @@ use Rattle.mm_text.proofs.LinesLemmas.{cut_found, cut_whole}
 -- a line and those after it
 pub lines_found : (front rest : List ℕ) → list_any is_line_feed front ≡ false → lines (front ++ 10 ∷ rest) ≡ without_return front ∷ lines rest
 lines_found front rest none = ap (map without_return) (cut_found is_line_feed front 10 rest none refl)
+
+-- the lines of a piece that is split
+pub lines_split : (piece line after more : List ℕ) → list_any is_line_feed line ≡ false → piece ≡ line ++ 10 ∷ after → lines (piece ++ more) ≡ without_return line ∷ lines (after ++ more)
+lines_split piece line after more none is =
+    ap (λ bytes. lines (bytes ++ more)) is ∙ ap lines (append_assoc line (10 ∷ after) more) ∙ lines_found line (after ++ more) none
 
 -- a last line that lacks its line feed
 pub lines_whole : (line : List ℕ) → 0 < length line → list_any is_line_feed line ≡ false → lines (line ++ []) ≡ without_return line ∷ []
@@ -37,6 +44,15 @@ list_any-None p xs none = elim (cases_lt (position_or_len p xs) (length xs)) [ i
     past : (ys : List ℕ) → length ys ≤ position_or_len p ys → list_any p ys ≡ false
     past [] above = refl
     past (y ∷ ys) above = elim (cases_Bool (p y)) [ inl e ↦ absurd (omega (arith, rw e at above)) | inr e ↦ rw e (past ys (omega (arith, rw e at above))) ]
+
+-- what `memchr` finds is the first place
+pub position-from_first : (b : ℕ) (xs : List ℕ) (r : Option ℕ) → IsFirstByte (is_byte b) xs r → r ≡ position (is_byte b) xs
+position-from_first b xs None nowhere =
+    let none : position_or_len (is_byte b) xs ≡ length xs = position_or_len_is (is_byte b) xs (length xs) 0 (omega arith) (λ k below. false_from_ne_true _ (nowhere k (omega arith) below)) (λ past. absurd (omega (arith, past))) in
+    rw none (rw (le-ltb (length xs) (length xs) (omega arith)) refl)
+position-from_first b xs (Some k) found =
+    let at : position_or_len (is_byte b) xs ≡ k = position_or_len_is (is_byte b) xs k 0 (omega (arith, found.0.high)) (λ j below. false_from_ne_true _ (found.0.before j (omega arith) below)) (λ past. found.1) in
+    rw at (rw (lt-ltb k (length xs) found.0.high) refl)
 
 -- a piece up to its first line feed, and what stands after that
 pub record SplitsAt (piece : List ℕ) (i : ℕ) : Type 0 where

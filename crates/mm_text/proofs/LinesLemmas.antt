@@ -126,7 +126,7 @@ other-natural xs k digits inside other dark =
     early above =
         let found = passes_at_first is_blank xs 0 (omega (arith, above, inside)) in
         elim (cases_eq (position_or_len is_blank xs) k) [
-          inl same ↦ both_ways _ dark (rw same at found)
+          | inl same ↦ both_ways _ dark (rw same at found)
           | inr ne ↦ both_ways _ (digits-blank xs k (position_or_len is_blank xs) digits (omega (arith, above, ne)) (omega (arith, above, inside))) found
         ]
 

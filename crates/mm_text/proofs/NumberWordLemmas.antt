@@ -1,8 +1,8 @@
 -- The number that the first word of a line spells.
-use Rattle.std.proofs.Common.{◌≡◌, ℕ, zero, suc, ◌+◌, ◌<◌, ◌≤◌, true, false, not, List, [], ◌∷◌, length, take, drop, get_or, refl, sym, ap, subst, ◌∙◌, inl, inr, arith}
+use Rattle.std.proofs.Common.{◌≡◌, ℕ, ◌<◌, ◌≤◌, true, false, not, List, [], ◌∷◌, length, take, drop, get_or, refl, sym, ◌∙◌, inl, inr, arith}
 use Rattle.std.specs.List.{list_all, position_or_len}
 use Rattle.std.proofs.lemmas.Bool.{cases_lt, both_ways}
-use Rattle.std.proofs.lemmas.List.{length-take, nil_from_length}
+use Rattle.std.proofs.lemmas.List.{length-take}
 use Rattle.mm_profile.specs.Lines.{is_blank, words, word_at}
 use Rattle.mm_profile.specs.Numbers.{is_digit, is_natural, natural}
 use Rattle.mm_text.specs.declared.numerals.Natural.TheVariants.{Small}
@@ -24,7 +24,7 @@ next-other line from k is digits inside other dark =
 pub next-none : (line from : List ℕ) → from ≡ from_word line → (0 < length from → is_blank (get_or from 0 0) ≡ true) → is_natural (word_at (words line) 0) ≡ false
 next-none line from is end =
     elim (cases_lt 0 (length (from_word line))) [
-      inl some ↦ absurd (both_ways (is_blank (get_or (from_word line) 0 0)) (first_byte line some) (rw is at end some))
+      | inl some ↦ absurd (both_ways (is_blank (get_or (from_word line) 0 0)) (first_byte line some) (rw is at end some))
       | inr none ↦ rw (words_none line (omega (arith, none))) refl
     ]
 

@@ -2,7 +2,7 @@
 use Rattle.std.specs.Prelude.{◌≡◌, ℕ, ◌+◌, Bool, true, ◌==◌, List, ◌∷◌, length, Result, Ok, Err}
 use Rattle.bern_base.specs.declared.matrix.Matrix.{Matrix}
 use Rattle.mm_profile.specs.Profile.{Fault, kept, body, file}
-use Rattle.mm_text.specs.Tables.{table_rest}
+use Rattle.mm_text.specs.Tables.{lines_rest}
 use Rattle.mm_text.specs.declared.stage.Stage.{Stage}
 use Rattle.mm_text.specs.declared.stage.Stage.TheVariants.{Start, Size, Entries, Refused}
 use Rattle.mm_text.specs.declared.error.MmError.{MmError}
@@ -12,7 +12,7 @@ use Rattle.mm_text.specs.declared.error.MmError.TheVariants.{Broken, NoMemory}
 abbrev pub outcome : Stage → ℕ → List (List ℕ) → Result Matrix Fault
 outcome Start n lines = file lines
 outcome (Size kind) n lines = body kind (kept n lines) (n + length lines)
-outcome (Entries t) n lines = table_rest t (kept n lines) (n + length lines)
+outcome (Entries t) n lines = lines_rest t n lines
 outcome (Refused line rule) n lines = Err (line, rule)
 
 -- nothing is known before line 1 alone

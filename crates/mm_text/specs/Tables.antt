@@ -1,10 +1,10 @@
 -- What becomes of a table of entries at the lines that follow.
-use Rattle.std.specs.Prelude.{◌≡◌, ℕ, List, ◌∷◌, ◌++◌, Result, Ok, Err}
+use Rattle.std.specs.Prelude.{◌≡◌, ℕ, ◌+◌, List, ◌∷◌, ◌++◌, length, Result, Ok, Err}
 use Rattle.bern_base.specs.declared.refusal.Rule.{Rule}
 use Rattle.bern_base.specs.declared.matrix.Matrix.{Matrix}
 use Rattle.mm_profile.specs.Lines.{words}
 use Rattle.mm_profile.specs.Sums.{matrix_of}
-use Rattle.mm_profile.specs.Profile.{Fault, Numbered, entries, and_then}
+use Rattle.mm_profile.specs.Profile.{Fault, Numbered, kept, entries, and_then}
 use Rattle.mm_text.specs.Cursor.{due_list}
 use Rattle.mm_text.specs.declared.table.Table.{Table}
 use Rattle.mm_text.specs.declared.error.LineError.{LineError}
@@ -25,3 +25,12 @@ abbrev pub AfterLine : Table → List ℕ → Table → Result (Unit {0}) LineEr
 AfterLine before line after (Ok _) = TakesLine before line after
 AfterLine before line after (Err (Broken rule)) = RefusesLine before line rule
 AfterLine before line after (Err NoMemory) = Unit {0}
+
+-- the same for a line that may be one to skip, among lines that are not cut into words; n is its number
+abbrev pub lines_rest : Table → ℕ → List (List ℕ) → Result Matrix Fault
+lines_rest t n lines = table_rest t (kept n lines) (n + length lines)
+
+abbrev pub AfterAnyLine : Table → List ℕ → Table → Result (Unit {0}) LineError → Type 0
+AfterAnyLine before line after (Ok _) = (n : ℕ) (lines : List (List ℕ)) → lines_rest before n (line ∷ lines) ≡ lines_rest after (n + 1) lines
+AfterAnyLine before line after (Err (Broken rule)) = (n : ℕ) (lines : List (List ℕ)) → lines_rest before n (line ∷ lines) ≡ Err (n, rule)
+AfterAnyLine before line after (Err NoMemory) = Unit {0}

@@ -1,30 +1,27 @@
-ghost use Rattle.std.specs.Prelude.{◌≡◌, ℕ, ◌+◌, ◌-◌, ◌^◌, ◌<◌, ◌≤◌, List, [], ◌∷◌, ◌++◌, length, take, drop, position, true, false, Ok, Err, IsTrue, IfOk, MatchOption};
+ghost use Rattle.std.specs.Prelude.{◌≡◌, ℕ, ◌+◌, ◌-◌, ◌^◌, ◌<◌, ◌≤◌, List, [], ◌∷◌, ◌++◌, length, take, drop, position, true, false, Ok, Err, IsTrue, IfOk, IfErr, MatchOption};
 ghost use Rattle.std.specs.List.{list_any};
 ghost use Rattle.bern_base.specs.Matrix.{IsMatrix};
 ghost use Rattle.mm_profile.specs.Lines.{is_line_feed, lines};
 ghost use Rattle.mm_profile.specs.Profile.{file};
 ghost use Rattle.mm_text.specs.Stages.{Gives};
-ghost use Rattle.mm_text.specs.Readings.{rest_of, Reads};
+ghost use Rattle.mm_text.specs.Tables.{lines_rest};
+ghost use Rattle.mm_text.specs.Readings.{rest_of, Reads, RefusesPiece};
 
-use crate::error::MmError;
+use crate::error::{LineError, MmError};
 use crate::reading::Reading;
 use crate::stage::Stage;
 use crate::stepping::{finish, step};
+use crate::table::Table;
 use crate::word_list::without_return;
 use bern_base::{Matrix, NoMemory, Rule};
+use memchr::memchr;
 use std::alloc::Global;
-
-fn is_line_feed(byte: u8) -> bool
-    ensures { result ≡ is_line_feed byte }
-{
-    byte == b'\n'
-}
 
 /// Where the first line of a piece ends.
 fn line_end(piece: &[u8]) -> Option<usize>
     ensures { result ≡ position is_line_feed piece.now }
 {
-    piece.iter().position(|b| is_line_feed(*b))
+    memchr(b'\n', piece)
 }
 
 /// The first line that ends in a piece, without its line feed, and what stands after it.
@@ -38,6 +35,32 @@ fn split_line(piece: &[u8]) -> Option<(&[u8], &[u8])>
         }
         None => None,
     }
+}
+
+/// Takes all lines that end in a piece, of which the first has this number. Gives the number of the line that is left, and its beginning.
+fn take_lines<'a>(
+    table: &mut Table,
+    number: u64,
+    piece: &'a [u8],
+) -> Result<(u64, &'a [u8]), MmError>
+    requires fits { number + length piece.now < 2 ^ 64 }
+    ensures lines { IfOk result (λ left. (more : List ℕ) → lines_rest table.old number (lines (piece.now ++ more)) ≡ lines_rest table.new left.0 (lines (left.1.now ++ more))) }
+    ensures refused { IfErr result (RefusesPiece table.old number piece.now) }
+    ensures number { IfOk result (λ left. left.0 + length left.1.now ≤ number + length piece.now) }
+    ensures shorter { IfOk result (λ left. length left.1.now ≤ length piece.now) }
+{
+    let mut next = number;
+    let mut rest = piece;
+    while let Some((line, after)) = split_line(rest) {
+        match table.take_any(without_return(line)) {
+            Ok(()) => {}
+            Err(LineError::Broken(rule)) => return Err(MmError::Broken { line: next, rule }),
+            Err(LineError::NoMemory) => return Err(MmError::NoMemory),
+        }
+        next += 1;
+        rest = after;
+    }
+    Ok((next, rest))
 }
 
 impl Reading {
@@ -86,6 +109,7 @@ impl Reading {
         requires fits { self.number + 1 < 2 ^ 64 }
         ensures reads { IfOk result (λ after. (more : List ℕ) → rest_of self (end.now ++ 10 ∷ more) ≡ rest_of after more) }
         ensures next { IfOk result (λ after. after.number ≡ self.number + 1) }
+        ensures ended { IfOk result (λ after. after.line.items ≡ []) }
     {
         let Reading {
             alloc,
@@ -117,6 +141,66 @@ impl Reading {
             number: number + 1,
             line,
         })
+    }
+
+    /// Takes all lines that end in a piece, once the size line is read. Gives what is left of the piece.
+    fn take_entries<'a>(self, piece: &'a [u8]) -> Result<(Reading, &'a [u8]), NoMemory>
+        requires begins { self.line.items ≡ [] }
+        requires fits { self.number + length piece.now < 2 ^ 64 }
+        ensures reads { IfOk result (λ left. (more : List ℕ) → rest_of self (piece.now ++ more) ≡ rest_of left.0 (left.1.now ++ more)) }
+        ensures number { IfOk result (λ left. left.0.number + length left.1.now ≤ self.number + length piece.now) }
+        ensures shorter { IfOk result (λ left. length left.1.now ≤ length piece.now) }
+    {
+        let Reading {
+            alloc,
+            stage,
+            number,
+            line,
+        } = self;
+        let Stage::Entries(mut table) = stage else {
+            let reading = Reading {
+                alloc,
+                stage,
+                number,
+                line,
+            };
+            return Ok((reading, piece));
+        };
+        match take_lines(&mut table, number, piece) {
+            Ok((number, rest)) => {
+                let reading = Reading {
+                    alloc,
+                    stage: Stage::Entries(table),
+                    number,
+                    line,
+                };
+                Ok((reading, rest))
+            }
+            Err(MmError::Broken { line: broken, rule }) => {
+                let reading = Reading {
+                    alloc,
+                    stage: Stage::Refused { line: broken, rule },
+                    number,
+                    line,
+                };
+                Ok((reading, &[]))
+            }
+            Err(MmError::NoMemory) => Err(NoMemory),
+        }
+    }
+
+    /// Takes a line that ends, and the lines after it that end in the piece, once the size line is read. Gives what is left of the piece.
+    fn take_some<'a>(self, line: &[u8], after: &'a [u8]) -> Result<(Reading, &'a [u8]), NoMemory>
+        requires whole { list_any is_line_feed line.now ≡ false }
+        requires fits { self.number + 1 + length after.now < 2 ^ 64 }
+        ensures reads { IfOk result (λ left. (more : List ℕ) → rest_of self (line.now ++ 10 ∷ (after.now ++ more)) ≡ rest_of left.0 (left.1.now ++ more)) }
+        ensures number { IfOk result (λ left. left.0.number + length left.1.now ≤ self.number + 1 + length after.now) }
+        ensures shorter { IfOk result (λ left. length left.1.now ≤ length after.now) }
+    {
+        match self.end_line(line, after.len()) {
+            Ok(reading) => reading.take_entries(after),
+            Err(NoMemory) => Err(NoMemory),
+        }
     }
 
     /// Keeps the beginning of a line.
@@ -152,8 +236,13 @@ impl Reading {
             if reading.is_refused() {
                 return Ok(reading);
             }
-            reading = reading.end_line(line, after.len())?;
-            rest = after;
+            match reading.take_some(line, after) {
+                Ok((next, left)) => {
+                    reading = next;
+                    rest = left;
+                }
+                Err(NoMemory) => return Err(NoMemory),
+            }
         }
         reading.keep(rest)
     }

@@ -46,14 +46,13 @@ fn after_sizes(
     }
 }
 
-/// The stage after an entry line.
+/// The stage after a line that follows the size line.
 fn after_entry(table: Table, number: u64, line: &[u8]) -> Result<Stage, NoMemory>
-    requires { is_skipped (words line.now) ≡ false }
     ensures steps { IfOk result (λ after. Steps (Stage.Entries table) number line.now after) }
     ensures numbered { IfOk result (λ after. IsTrue (is_numbered after (number + 1))) }
 {
     let mut table = table;
-    match table.take(line) {
+    match table.take_any(line) {
         Ok(()) => Ok(Stage::Entries(table)),
         Err(LineError::Broken(rule)) => Ok(Stage::Refused { line: number, rule }),
         Err(LineError::NoMemory) => Err(NoMemory),
@@ -81,12 +80,7 @@ pub(crate) fn step(
             }
             after_sizes(alloc, kind, number, line, to_come)
         }
-        Stage::Entries(table) => {
-            if is_skipped(line) {
-                return Ok(Stage::Entries(table));
-            }
-            after_entry(table, number, line)
-        }
+        Stage::Entries(table) => after_entry(table, number, line),
     }
 }
 

@@ -2,7 +2,7 @@ ghost use Rattle.std.specs.Prelude.{◌≡◌, ℕ, List, [], Ok, Err, IsTrue, I
 ghost use Rattle.bern_base.specs.Matrix.{IsMatrix};
 ghost use Rattle.mm_profile.specs.Sizes.{is_square};
 ghost use Rattle.mm_profile.specs.Profile.{Numbered, table};
-ghost use Rattle.mm_text.specs.Tables.{table_rest, AfterLine};
+ghost use Rattle.mm_text.specs.Tables.{table_rest, AfterLine, AfterAnyLine};
 
 use crate::counting::next_entry;
 use crate::due::{Due, all_due};
@@ -10,6 +10,7 @@ use crate::error::LineError;
 use crate::room::{append, room_for};
 use crate::sums::matrix_of;
 use crate::table::Table;
+use crate::word_list::is_skipped;
 use bern_base::{Matrix, NoMemory, Rule};
 use mm_profile::Head;
 use std::alloc::Global;
@@ -44,6 +45,16 @@ impl Table {
             },
             Err(rule) => Err(LineError::Broken(rule)),
         }
+    }
+
+    /// Takes a line that may be one to skip.
+    pub(crate) fn take_any(&mut self, line: &[u8]) -> Result<(), LineError>
+        ensures { AfterAnyLine self.old line.now self.new result }
+    {
+        if is_skipped(line) {
+            return Ok(());
+        }
+        self.take(line)
     }
 
     /// The matrix, where no more lines are due.

@@ -1,7 +1,4 @@
-use Rattle.std.proofs.Common.{◌<◌, ◌≡◌, true, length, get_or, arith, refl, subst}
-use Rattle.mm_profile.specs.Lines.{is_blank}
-use Rattle.mm_text.specs.declared.numerals.Natural.TheVariants.{Small}
-use Rattle.mm_text.specs.Naturals.{IsNextNatural}
+use Rattle.std.proofs.Common.{◌<◌, arith, refl}
 use Rattle.mm_text.proofs.NumberWordLemmas.{next-other, next-none, next-number}
 use Rattle.mm_text.proofs.number_words.next_natural.Goals as goal
 
@@ -13,11 +10,11 @@ returns-then-not-ends_at c =
 pub returns-then-len-eq0 : goal.returns-then-len-eq0
 returns-then-len-eq0 c =
     next-none c.args.line.now c.from_word-from.result.now c.from_word-from.ensures
-      (rw c.if-len-eq0.true at (c.if-not-ends_at.ensures.ends refl))
+    (rw c.if-len-eq0.true at (c.if-not-ends_at.ensures.ends refl))
 
 pub returns : goal.returns
 returns c =
     let above : 0 < c.in-Some.len = let some = c.if-len-eq0.false in omega (arith, some) in
     rw c.split_at.ensures.back
-      (next-number c.args.line.now c.from_word-from.result.now c.in-Some.len c.in-Some.number c.from_word-from.ensures above c.in-Some.ensures.within c.in-Some.ensures.digits
-        (c.if-not-ends_at.ensures.ends refl) c.in-Some.ensures.number)
+    (next-number c.args.line.now c.from_word-from.result.now c.in-Some.len c.in-Some.number c.from_word-from.ensures above c.in-Some.ensures.within c.in-Some.ensures.digits
+    (c.if-not-ends_at.ensures.ends refl) c.in-Some.ensures.number)
