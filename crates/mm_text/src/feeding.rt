@@ -244,6 +244,9 @@ impl Reading {
                 Err(NoMemory) => return Err(NoMemory),
             }
         }
+        if reading.is_refused() {
+            return Ok(reading);
+        }
         reading.keep(rest)
     }
 
