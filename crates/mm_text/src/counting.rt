@@ -13,7 +13,9 @@ fn next_listed(head: &Head, row: u32, col: u32, line: &[u8]) -> Result<(Counted,
     requires row { row < head.now.rows }
     requires col { col < head.now.cols }
     requires square { IsTrue (is_square head.now.kind.symmetry head.now.rows head.now.cols) }
-    ensures entry { MatchResult result (λ next. CountsNext head.now (Due.Listed row col) line.now next.0 next.1) (RefusesNext head.now (Due.Listed row col) line.now) }
+    ensures entry { MatchResult result
+        (λ next. CountsNext head.now (Due.Listed row col) line.now next.0 next.1)
+        (RefusesNext head.now (Due.Listed row col) line.now) }
     ensures within { IfOk result (λ next. IsTrue (is_due head.now next.1)) }
     ensures inside { IfOk result (λ next. IsTrue (are_inside head.now.rows head.now.cols (counted_list next.0))) }
 {
@@ -27,7 +29,9 @@ fn next_listed(head: &Head, row: u32, col: u32, line: &[u8]) -> Result<(Counted,
 pub(crate) fn next_entry(head: &Head, due: Due, line: &[u8]) -> Result<(Counted, Due), Rule>
     requires square { IsTrue (is_square head.now.kind.symmetry head.now.rows head.now.cols) }
     requires within { IsTrue (is_due head.now due) }
-    ensures entry { MatchResult result (λ next. CountsNext head.now due line.now next.0 next.1) (RefusesNext head.now due line.now) }
+    ensures entry { MatchResult result
+        (λ next. CountsNext head.now due line.now next.0 next.1)
+        (RefusesNext head.now due line.now) }
     ensures within { IfOk result (λ next. IsTrue (is_due head.now next.1)) }
     ensures inside { IfOk result (λ next. IsTrue (are_inside head.now.rows head.now.cols (counted_list next.0))) }
 {

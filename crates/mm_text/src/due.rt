@@ -45,7 +45,8 @@ fn due_from(head: &Head, col: u32) -> Due
 pub(crate) fn due_after(head: &Head, row: u32, col: u32) -> Due
     requires row { row < head.now.rows }
     requires col { col < head.now.cols }
-    ensures places { due_list head.now result ≡ column_from head.now.rows (row + 1) col ++ columns head.now (col + 1) (head.now.cols - (col + 1)) }
+    ensures places { due_list head.now result ≡
+        column_from head.now.rows (row + 1) col ++ columns head.now (col + 1) (head.now.cols - (col + 1)) }
     ensures within { IsTrue (is_due head.now result) }
 {
     let (rows, _cols) = (head.rows, head.cols);

@@ -79,7 +79,9 @@ fn valued(head: &Head, row: u32, col: u32, number: Number) -> Result<Counted, Ru
 
 /// An index from 1 to its size, counted from 0.
 fn index_of(size: u32, index: Natural) -> Option<u32>
-    ensures index { (m : ℕ) → StandsFor index m → MatchOption result (is_index size m ≡ false) (λ i. (is_index size m ≡ true) × (i ≡ m - 1)) }
+    ensures index { (m : ℕ) → StandsFor index m → MatchOption result
+        (is_index size m ≡ false)
+        (λ i. (is_index size m ≡ true) × (i ≡ m - 1)) }
     ensures below { IfSome result (λ i. i < size) }
 {
     match index {
@@ -90,7 +92,8 @@ fn index_of(size: u32, index: Natural) -> Option<u32>
 
 fn placed(head: &Head, row: Natural, col: Natural, number: Number) -> Result<Counted, Rule>
     requires square { IsTrue (is_square head.now.kind.symmetry head.now.rows head.now.cols) }
-    ensures entry { (i j : ℕ) (n : Whole) → StandsFor row i → StandsFor col j → IsNumber number n → listed result ≡ placed head.now i j n }
+    ensures entry { (i j : ℕ) (n : Whole) → StandsFor row i → StandsFor col j → IsNumber number n →
+        listed result ≡ placed head.now i j n }
     ensures inside { IfOk result (λ c. IsTrue (are_inside head.now.rows head.now.cols (counted_list c))) }
 {
     let Some(row) = index_of(head.rows, row) else {
@@ -104,7 +107,12 @@ fn placed(head: &Head, row: Natural, col: Natural, number: Number) -> Result<Cou
 
 /// The row, the column and the value of a line that names all three.
 fn place_and_value(line: &[u8]) -> Option<(Natural, Natural, Number)>
-    ensures { MatchOption result (is_stated_line Field.Integer (words line.now) ≡ false) (λ n. (is_stated_line Field.Integer (words line.now) ≡ true) × StandsFor n.0 (number_at (words line.now) 0) × StandsFor n.1 (number_at (words line.now) 1) × IsNumber n.2 (integer (word_at (words line.now) 2))) }
+    ensures { MatchOption result
+        (is_stated_line Field.Integer (words line.now) ≡ false)
+        (λ n. (is_stated_line Field.Integer (words line.now) ≡ true)
+        × StandsFor n.0 (number_at (words line.now) 0)
+        × StandsFor n.1 (number_at (words line.now) 1)
+        × IsNumber n.2 (integer (word_at (words line.now) 2))) }
 {
     let (row, after_row) = next_natural(line)?;
     let (col, after_col) = next_natural(after_row)?;

@@ -26,7 +26,9 @@ fn line_end(piece: &[u8]) -> Option<usize>
 
 /// The first line that ends in a piece, without its line feed, and what stands after it.
 fn split_line(piece: &[u8]) -> Option<(&[u8], &[u8])>
-    ensures { MatchOption result (list_any is_line_feed piece.now ≡ false) (λ p. (list_any is_line_feed p.0.now ≡ false) × (piece.now ≡ p.0.now ++ 10 ∷ p.1.now)) }
+    ensures { MatchOption result
+        (list_any is_line_feed piece.now ≡ false)
+        (λ p. (list_any is_line_feed p.0.now ≡ false) × (piece.now ≡ p.0.now ++ 10 ∷ p.1.now)) }
 {
     match line_end(piece) {
         Some(end) => {
@@ -44,7 +46,8 @@ fn take_lines<'a>(
     piece: &'a [u8],
 ) -> Result<(u64, &'a [u8]), MmError>
     requires fits { number + length piece.now < 2 ^ 64 }
-    ensures lines { IfOk result (λ left. (more : List ℕ) → lines_rest table.old number (lines (piece.now ++ more)) ≡ lines_rest table.new left.0 (lines (left.1.now ++ more))) }
+    ensures lines { IfOk result (λ left. (more : List ℕ) →
+        lines_rest table.old number (lines (piece.now ++ more)) ≡ lines_rest table.new left.0 (lines (left.1.now ++ more))) }
     ensures refused { IfErr result (RefusesPiece table.old number piece.now) }
     ensures number { IfOk result (λ left. left.0 + length left.1.now ≤ number + length piece.now) }
     ensures shorter { IfOk result (λ left. length left.1.now ≤ length piece.now) }
@@ -107,7 +110,8 @@ impl Reading {
     fn end_line(self, end: &[u8], to_come: usize) -> Result<Reading, NoMemory>
         requires whole { list_any is_line_feed end.now ≡ false }
         requires fits { self.number + 1 < 2 ^ 64 }
-        ensures reads { IfOk result (λ after. (more : List ℕ) → rest_of self (end.now ++ 10 ∷ more) ≡ rest_of after more) }
+        ensures reads { IfOk result (λ after. (more : List ℕ) →
+            rest_of self (end.now ++ 10 ∷ more) ≡ rest_of after more) }
         ensures next { IfOk result (λ after. after.number ≡ self.number + 1) }
         ensures ended { IfOk result (λ after. after.line.items ≡ []) }
     {
@@ -147,7 +151,8 @@ impl Reading {
     fn take_entries<'a>(self, piece: &'a [u8]) -> Result<(Reading, &'a [u8]), NoMemory>
         requires begins { self.line.items ≡ [] }
         requires fits { self.number + length piece.now < 2 ^ 64 }
-        ensures reads { IfOk result (λ left. (more : List ℕ) → rest_of self (piece.now ++ more) ≡ rest_of left.0 (left.1.now ++ more)) }
+        ensures reads { IfOk result (λ left. (more : List ℕ) →
+            rest_of self (piece.now ++ more) ≡ rest_of left.0 (left.1.now ++ more)) }
         ensures number { IfOk result (λ left. left.0.number + length left.1.now ≤ self.number + length piece.now) }
         ensures shorter { IfOk result (λ left. length left.1.now ≤ length piece.now) }
     {
@@ -193,7 +198,8 @@ impl Reading {
     fn take_some<'a>(self, line: &[u8], after: &'a [u8]) -> Result<(Reading, &'a [u8]), NoMemory>
         requires whole { list_any is_line_feed line.now ≡ false }
         requires fits { self.number + 1 + length after.now < 2 ^ 64 }
-        ensures reads { IfOk result (λ left. (more : List ℕ) → rest_of self (line.now ++ 10 ∷ (after.now ++ more)) ≡ rest_of left.0 (left.1.now ++ more)) }
+        ensures reads { IfOk result (λ left. (more : List ℕ) →
+            rest_of self (line.now ++ 10 ∷ (after.now ++ more)) ≡ rest_of left.0 (left.1.now ++ more)) }
         ensures number { IfOk result (λ left. left.0.number + length left.1.now ≤ self.number + 1 + length after.now) }
         ensures shorter { IfOk result (λ left. length left.1.now ≤ length after.now) }
     {

@@ -8,7 +8,9 @@ use crate::word_list::{from_word, is_blank, next_word};
 
 /// As `next_natural`, for a word of any length.
 fn next_long_natural(line: &[u8]) -> Option<(Natural, &[u8])>
-    ensures { MatchOption result (is_natural (word_at (words line.now) 0) ≡ false) (λ n. IsNextNatural line.now n.0 n.1.now) }
+    ensures { MatchOption result
+        (is_natural (word_at (words line.now) 0) ≡ false)
+        (λ n. IsNextNatural line.now n.0 n.1.now) }
 {
     let (word, rest) = next_word(line)?;
     let number = read_natural(word)?;
@@ -30,7 +32,9 @@ fn ends_at(from: &[u8], len: usize) -> bool
 
 /// The number that the first word of a line spells, and what stands after the word. The word is looked at once.
 pub(crate) fn next_natural(line: &[u8]) -> Option<(Natural, &[u8])>
-    ensures { MatchOption result (is_natural (word_at (words line.now) 0) ≡ false) (λ n. IsNextNatural line.now n.0 n.1.now) }
+    ensures { MatchOption result
+        (is_natural (word_at (words line.now) 0) ≡ false)
+        (λ n. IsNextNatural line.now n.0 n.1.now) }
 {
     let from = from_word(line);
     let Some((number, len)) = digits_front(from) else {

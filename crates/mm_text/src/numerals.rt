@@ -71,7 +71,9 @@ pub(crate) fn digits_front(bytes: &[u8]) -> Option<(u64, usize)>
 
 /// The number that a word of any length spells by digits.
 fn long_natural(word: &[u8]) -> Option<Natural>
-    ensures { MatchOption result (is_natural word.now ≡ false) (λ n. (is_natural word.now ≡ true) × StandsFor n (natural word.now)) }
+    ensures { MatchOption result
+        (is_natural word.now ≡ false)
+        (λ n. (is_natural word.now ≡ true) × StandsFor n (natural word.now)) }
 {
     if word.is_empty() {
         return None;
@@ -88,7 +90,9 @@ fn long_natural(word: &[u8]) -> Option<Natural>
 
 /// The number that a word spells by digits.
 pub(crate) fn read_natural(word: &[u8]) -> Option<Natural>
-    ensures { MatchOption result (is_natural word.now ≡ false) (λ n. (is_natural word.now ≡ true) × StandsFor n (natural word.now)) }
+    ensures { MatchOption result
+        (is_natural word.now ≡ false)
+        (λ n. (is_natural word.now ≡ true) × StandsFor n (natural word.now)) }
 {
     let Some((number, len)) = digits_front(word) else {
         return long_natural(word);
@@ -135,7 +139,9 @@ fn number_of(minus: bool, size: Natural) -> Number
 
 /// The integer that a word spells.
 pub(crate) fn read_integer(word: &[u8]) -> Option<Number>
-    ensures { MatchOption result (is_integer word.now ≡ false) (λ n. (is_integer word.now ≡ true) × IsNumber n (integer word.now)) }
+    ensures { MatchOption result
+        (is_integer word.now ≡ false)
+        (λ n. (is_integer word.now ≡ true) × IsNumber n (integer word.now)) }
 {
     let size = read_natural(unsigned(word))?;
     Some(number_of(is_minus(word), size))

@@ -27,7 +27,8 @@ impl MatrixFeed {
     /// Takes the next piece of the file. After want of memory the feed is spent.
     pub fn feed(&mut self, piece: &[u8]) -> Result<(), FeedError>
         ensures feeds { Feeds self.old piece.now self.new result }
-        ensures too_long { (bytes : List ℕ) → StandsForBytes self.old bytes → (IsErrOf result FeedError.TooLong ↔ IsTrue (is_too_long (bytes ++ piece.now))) }
+        ensures too_long { (bytes : List ℕ) → StandsForBytes self.old bytes →
+            (IsErrOf result FeedError.TooLong ↔ IsTrue (is_too_long (bytes ++ piece.now))) }
         ensures spent { IsSpent self.old → result ≡ Err FeedError.NoMemory }
     {
         let Some(reading) = self.reading.take() else {

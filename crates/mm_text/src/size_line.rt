@@ -15,7 +15,11 @@ const MAX_STATED: u32 = 16_777_216;
 
 /// The numbers of a line of two numbers.
 pub(crate) fn two_numbers(line: &[u8]) -> Option<(Natural, Natural)>
-    ensures { MatchOption result (are_numbers 2 (words line.now) ≡ false) (λ n. (are_numbers 2 (words line.now) ≡ true) × StandsFor n.0 (number_at (words line.now) 0) × StandsFor n.1 (number_at (words line.now) 1)) }
+    ensures { MatchOption result
+        (are_numbers 2 (words line.now) ≡ false)
+        (λ n. (are_numbers 2 (words line.now) ≡ true)
+        × StandsFor n.0 (number_at (words line.now) 0)
+        × StandsFor n.1 (number_at (words line.now) 1)) }
 {
     let (first, after_first) = next_natural(line)?;
     let (second, after_second) = next_natural(after_first)?;
@@ -27,7 +31,12 @@ pub(crate) fn two_numbers(line: &[u8]) -> Option<(Natural, Natural)>
 
 /// The numbers of a line of three numbers.
 fn three_numbers(line: &[u8]) -> Option<(Natural, Natural, Natural)>
-    ensures { MatchOption result (are_numbers 3 (words line.now) ≡ false) (λ n. (are_numbers 3 (words line.now) ≡ true) × StandsFor n.0 (number_at (words line.now) 0) × StandsFor n.1 (number_at (words line.now) 1) × StandsFor n.2 (number_at (words line.now) 2)) }
+    ensures { MatchOption result
+        (are_numbers 3 (words line.now) ≡ false)
+        (λ n. (are_numbers 3 (words line.now) ≡ true)
+        × StandsFor n.0 (number_at (words line.now) 0)
+        × StandsFor n.1 (number_at (words line.now) 1)
+        × StandsFor n.2 (number_at (words line.now) 2)) }
 {
     let (first, second, third) = three_words(line)?;
     let first = read_natural(first)?;
@@ -38,7 +47,8 @@ fn three_numbers(line: &[u8]) -> Option<(Natural, Natural, Natural)>
 
 /// A number that is at most this limit.
 fn within(limit: u32, number: Natural) -> Option<u32>
-    ensures { (m : ℕ) → StandsFor number m → MatchOption result (limit < m) (λ n. (m ≡ n) × (n ≤ limit)) }
+    ensures { (m : ℕ) → StandsFor number m →
+        MatchOption result (limit < m) (λ n. (m ≡ n) × (n ≤ limit)) }
 {
     match number {
         Natural::Small(n) if n <= limit as u64 => Some(n as u32),

@@ -19,7 +19,8 @@ impl Table {
     /// The table of a file of which no entry line is read, with room for what the bytes that are known to come can hold.
     pub(crate) fn new(alloc: Global, head: Head, to_come: usize) -> Result<Table, NoMemory>
         requires { IsTrue (is_square head.kind.symmetry head.rows head.cols) }
-        ensures { IfOk result (λ t. (lines : List Numbered) (past : ℕ) → table_rest t lines past ≡ table head lines past) }
+        ensures { IfOk result (λ t. (lines : List Numbered) (past : ℕ) →
+            table_rest t lines past ≡ table head lines past) }
     {
         match Vec::with_capacity(alloc, room_for(&head, to_come)) {
             Ok(counted) => Ok(Table {
@@ -59,7 +60,9 @@ impl Table {
 
     /// The matrix, where no more lines are due.
     pub(crate) fn finish(self) -> Result<Matrix, Rule>
-        ensures read { MatchResult result (λ m. (past : ℕ) → table_rest self [] past ≡ Ok m) (λ rule. (past : ℕ) → table_rest self [] past ≡ Err (past, rule)) }
+        ensures read { MatchResult result
+            (λ m. (past : ℕ) → table_rest self [] past ≡ Ok m)
+            (λ rule. (past : ℕ) → table_rest self [] past ≡ Err (past, rule)) }
         ensures matrix { IfOk result (λ m. IsMatrix m) }
     {
         let Table { head, due, counted } = self;

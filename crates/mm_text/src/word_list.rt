@@ -82,7 +82,9 @@ pub(crate) fn one_word(line: &[u8]) -> Option<&[u8]>
 
 /// The words of a line that has just two.
 pub(crate) fn two_words(line: &[u8]) -> Option<(&[u8], &[u8])>
-    ensures { MatchOption result (length (words line.now) ≢ 2) (λ w. words line.now ≡ w.0.now ∷ w.1.now ∷ []) }
+    ensures { MatchOption result
+        (length (words line.now) ≢ 2)
+        (λ w. words line.now ≡ w.0.now ∷ w.1.now ∷ []) }
 {
     let (word, rest) = next_word(line)?;
     let second = one_word(rest)?;
@@ -91,7 +93,9 @@ pub(crate) fn two_words(line: &[u8]) -> Option<(&[u8], &[u8])>
 
 /// The words of a line that has just three.
 pub(crate) fn three_words(line: &[u8]) -> Option<(&[u8], &[u8], &[u8])>
-    ensures { MatchOption result (length (words line.now) ≢ 3) (λ w. words line.now ≡ w.0.now ∷ w.1.now ∷ w.2.now ∷ []) }
+    ensures { MatchOption result
+        (length (words line.now) ≢ 3)
+        (λ w. words line.now ≡ w.0.now ∷ w.1.now ∷ w.2.now ∷ []) }
 {
     let (word, rest) = next_word(line)?;
     let (second, third) = two_words(rest)?;
@@ -100,7 +104,9 @@ pub(crate) fn three_words(line: &[u8]) -> Option<(&[u8], &[u8], &[u8])>
 
 /// The words of a line that has just five.
 pub(crate) fn five_words(line: &[u8]) -> Option<(&[u8], &[u8], &[u8], &[u8], &[u8])>
-    ensures { MatchOption result (length (words line.now) ≢ 5) (λ w. words line.now ≡ w.0.now ∷ w.1.now ∷ w.2.now ∷ w.3.now ∷ w.4.now ∷ []) }
+    ensures { MatchOption result
+        (length (words line.now) ≢ 5)
+        (λ w. words line.now ≡ w.0.now ∷ w.1.now ∷ w.2.now ∷ w.3.now ∷ w.4.now ∷ []) }
 {
     let (word, rest) = next_word(line)?;
     let (second, rest) = next_word(rest)?;
