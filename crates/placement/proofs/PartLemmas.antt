@@ -120,12 +120,12 @@ part-IsMatrix ranks ts axis p m placed_well is extent =
     }
 
 -- the same of what is made of as many indices and of the same entries
-pub sized-IsMatrix : (ranks : ℕ) (ts : List Triple) (axis : Axis) (p : ℕ) (m : Matrix) (n : ℕ) (own given : List Entry) → IsPlacement ranks ts → IsMatrix m → extent_on axis m.rows m.cols ≡ length ts →
-    n ≡ owned_of ts p → own ≡ map (localized axis ts) (filter (is_owned axis ts p) given) → given ≡ m.entries → IsMatrix (record { rows = part_rows axis m n; cols = part_cols axis m n; entries = own })
-sized-IsMatrix ranks ts axis p m n own given is good extent size kept whole =
+pub sized-IsMatrix : (ranks : ℕ) (ts : List Triple) (axis : Axis) (p : ℕ) (m made : Matrix) (n : ℕ) (own given : List Entry) → IsPlacement ranks ts → IsMatrix m → extent_on axis m.rows m.cols ≡ length ts →
+    made ≡ record { rows = part_rows axis m n; cols = part_cols axis m n; entries = own } → n ≡ owned_of ts p → own ≡ map (localized axis ts) (filter (is_owned axis ts p) given) → given ≡ m.entries → IsMatrix made
+sized-IsMatrix ranks ts axis p m made n own given is good extent shape size kept whole =
     let sized : ℕ → List Entry → Matrix = λ k es. record { rows = part_rows axis m k; cols = part_cols axis m k; entries = es } in
     let entries : own ≡ (part_of axis ts p m).matrix.entries = kept ∙ ap (λ es. map (localized axis ts) (filter (is_owned axis ts p) es)) whole in
-    let same : sized n own ≡ (part_of axis ts p m).matrix = ap (λ k. sized k own) size ∙ ap (sized (owned_of ts p)) entries in
+    let same : made ≡ (part_of axis ts p m).matrix = shape ∙ ap (λ k. sized k own) size ∙ ap (sized (owned_of ts p)) entries in
     subst IsMatrix (sym same) (part-IsMatrix ranks ts axis p m is good extent)
 
 -- the way back from a local index
