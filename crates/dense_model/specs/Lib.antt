@@ -1,3 +1,4 @@
 pub mod ArrayText
 pub mod Dense
 pub mod State
+pub mod Sums
