@@ -1,5 +1,5 @@
 use super::*;
-use bern_base::{Entry, Rule, Val};
+use bern_base::{Entry, Items, Rule, Text, Val};
 use std::alloc::Global;
 use std::test::Fail;
 
@@ -352,6 +352,33 @@ fn a_file_that_is_too_long_is_refused_as_a_whole(rt: HostRuntime) -> Result<(), 
     assert_eq!(rt; feed.finish().err(), refused(0, Rule::M12));
     let feed = fed_mebibytes(rt.alloc(), 64)?;
     assert_eq!(rt; feed.finish().err(), refused(1, Rule::M1));
+    Ok(())
+}
+
+#[test]
+fn a_printed_array_is_read_back(rt: HostRuntime) -> Result<(), Fail> {
+    printed_arrays_are_read();
+    let name = Text::from_bytes(rt.alloc(), b"D, 2 by 2\r")?;
+    let values = [
+        Val::new(1),
+        Val::new(MINUS_ONE),
+        Val::new(0),
+        Val::new(1 << 63),
+    ];
+    let values = Items::from_slice(rt.alloc(), &values)?;
+    let mut text = Text::new(rt.alloc());
+    if values.len() == 4 {
+        write_array(&name, 2, 2, &values, &mut text)?;
+    }
+    let matrix = read_matrix(rt.alloc(), text.as_bytes())?;
+    let entries = [
+        entry(0, 0, 1),
+        entry(0, 1, MINUS_ONE),
+        entry(1, 0, 0),
+        entry(1, 1, 1 << 63),
+    ];
+    assert_eq!(rt; (matrix.rows, matrix.cols), (2, 2));
+    assert_eq!(rt; matrix.entries.as_slice(), entries.as_slice());
     Ok(())
 }
 
