@@ -1,1 +1,11 @@
 pub mod AppendLemmas
+pub mod LinesLemmas
+pub mod NumberWordLemmas
+pub mod PlacesLemmas
+pub mod EntriesLemmas
+pub mod SumsLemmas
+pub mod FeedingLemmas
+pub mod PrintedNumbers
+pub mod PrintedLines
+pub mod Grids
+pub mod PrintedArrayLemmas

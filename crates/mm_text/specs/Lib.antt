@@ -1,0 +1,9 @@
+pub mod Naturals
+pub mod Counts
+pub mod Cursor
+pub mod Merging
+pub mod Tables
+pub mod Stages
+pub mod Readings
+pub mod Feeds
+pub mod PrintedArrays
