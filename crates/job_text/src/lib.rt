@@ -1,0 +1,7 @@
+//! Reading a job text: from bytes to the forms of its lines, up to the first line that has none.
+//!
+//! Lines count from 1.
+#![tactic(auto)]
+
+mod lines;
+mod stop;

@@ -1,0 +1,98 @@
+ghost use Rattle.std.specs.Prelude.{◌≡◌, map, IfOk};
+ghost use Rattle.std.specs.List.{before_first, position_or_len};
+ghost use Rattle.std.specs.Str.Lines.{strip_carriage_return};
+ghost use Rattle.bstr.specs.Text.{lines_of};
+ghost use Rattle.job_text.specs.Lines.{without_feed, is_hash, is_blank, is_some_text, trimmed, said, words};
+
+use crate::stop::Stop;
+use bstr::ByteSlice;
+use std::alloc::Global;
+
+/// The lines of a file with their feeds.
+pub(crate) fn fed_lines<'a>(alloc: Global, bytes: &'a [u8]) -> Result<Vec<&'a [u8]>, Stop>
+    ensures { IfOk result (λ found. map (λ line. line.now) found.items ≡ lines_of bytes.now) }
+{
+    let lines = bytes.lines_with_terminator().collect(alloc)?;
+    Ok(lines)
+}
+
+/// A line without its feed and one carriage return before it.
+pub(crate) fn without_end(line: &[u8]) -> &[u8]
+    ensures { result.now ≡ strip_carriage_return (without_feed line.now) }
+{
+    without_return(without_feed(line))
+}
+
+fn without_feed(line: &[u8]) -> &[u8]
+    ensures { result.now ≡ without_feed line.now }
+{
+    match line {
+        [front @ .., b'\n'] => front,
+        _ => line,
+    }
+}
+
+fn without_return(line: &[u8]) -> &[u8]
+    ensures { result.now ≡ strip_carriage_return line.now }
+{
+    match line {
+        [front @ .., b'\r'] => front,
+        _ => line,
+    }
+}
+
+/// What a line says: up to its comment, without the blanks before it.
+pub(crate) fn said(line: &[u8]) -> &[u8]
+    ensures { result.now ≡ said line.now }
+{
+    trimmed(before_comment(line))
+}
+
+fn before_comment(line: &[u8]) -> &[u8]
+    ensures { result.now ≡ before_first is_hash line.now }
+{
+    &line[..comment_start(line)]
+}
+
+/// Where the comment of a line begins: its length where there is none.
+fn comment_start(line: &[u8]) -> usize
+    ensures { result ≡ position_or_len is_hash line.now }
+{
+    line.iter()
+        .position(|byte| *byte == b'#')
+        .unwrap_or(line.len())
+}
+
+/// A text from its first byte on that is no blank.
+pub(crate) fn trimmed(text: &[u8]) -> &[u8]
+    ensures { result.now ≡ trimmed text.now }
+{
+    let mut rest = text;
+    while let [b' ' | b'\t', after @ ..] = rest {
+        rest = after;
+    }
+    rest
+}
+
+/// The words of a text, which blanks separate.
+pub(crate) fn words<'a>(alloc: Global, text: &'a [u8]) -> Result<Vec<&'a [u8]>, Stop>
+    ensures { IfOk result (λ found. map (λ word. word.now) found.items ≡ words text.now) }
+{
+    let words = text
+        .split(|byte| is_blank(*byte))
+        .filter(|word| is_some_text(word))
+        .collect(alloc)?;
+    Ok(words)
+}
+
+fn is_blank(byte: u8) -> bool
+    ensures { result ≡ is_blank byte }
+{
+    byte == b' ' || byte == b'\t'
+}
+
+fn is_some_text(text: &[u8]) -> bool
+    ensures { result ≡ is_some_text text.now }
+{
+    !matches!(text, [])
+}
