@@ -4,4 +4,7 @@
 #![tactic(auto)]
 
 mod lines;
+mod marks;
 mod stop;
+mod tokens;
+mod words;
