@@ -1,3 +1,5 @@
 pub mod Lines
 pub mod Marks
+pub mod Reading
+pub mod Tokens
 pub mod Words

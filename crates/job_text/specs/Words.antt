@@ -1,8 +1,9 @@
 -- Names, numbers and file names.
-use Rattle.std.specs.Prelude.{◌≡◌, ℕ, ◌^◌, ◌<◌, Bool, false, List, [], ◌∷◌, ◌==◌, ◌||◌, ◌&&◌, not, nat_le, nat_lt, length, codes}
+use Rattle.std.specs.Prelude.{◌≡◌, ℕ, ◌^◌, ◌<◌, Bool, true, false, List, [], ◌∷◌, ◌==◌, ◌||◌, ◌&&◌, not, nat_le, nat_lt, length, codes}
 use Rattle.std.specs.List.{list_all, list_any}
 use Rattle.std.specs.Str.{bytes_eq}
-use Rattle.std.specs.Str.Parse.{IsNumeral, digits_value}
+use Rattle.std.specs.Str.Parse.{digits_value}
+use Rattle.job_text.specs.Lines.{is_some_text}
 
 -- a letter or `_`
 abbrev pub is_name_start : ℕ → Bool
@@ -51,8 +52,11 @@ is_file_byte byte = nat_le 33 byte && nat_le byte 126 && not (byte == 35)
 abbrev pub is_file_name : List ℕ → Bool
 is_file_name word = nat_le 1 (length word) && nat_le (length word) 255 && list_all is_file_byte word
 
--- a number below 2 ^ 64 in decimal digits, leading zeros allowed
+abbrev pub is_numeral : List ℕ → Bool
+is_numeral word = is_some_text word && list_all is_digit word
+
+-- the number that decimal digits write, where it is below 2 ^ 64; leading zeros are allowed
 pub record IsNumber (n : ℕ) (word : List ℕ) : Type 0 where
-  pub digits : IsNumeral 10 word
+  pub digits : is_numeral word ≡ true
   pub value : n ≡ digits_value 10 word
   pub fits : n < 2 ^ 64

@@ -5,6 +5,7 @@
 
 mod lines;
 mod marks;
+mod numbers;
 mod stop;
 mod tokens;
 mod words;

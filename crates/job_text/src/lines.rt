@@ -91,7 +91,7 @@ fn is_blank(byte: u8) -> bool
     byte == b' ' || byte == b'\t'
 }
 
-fn is_some_text(text: &[u8]) -> bool
+pub(crate) fn is_some_text(text: &[u8]) -> bool
     ensures { result ≡ is_some_text text.now }
 {
     !matches!(text, [])
