@@ -1,2 +1,5 @@
 pub mod LineLemmas
 pub mod NumberLemmas
+pub mod PlaceLemmas
+pub mod TokenLemmas
+pub mod StopLemmas

@@ -1,5 +1,6 @@
 -- What the readers answer, as functions of the words and tokens.
 use Rattle.std.specs.Prelude.{◌≡◌, ℕ, ◌^◌, Option, Some, None, Result, Ok, Err, Bool, List, nat_lt, if◌then◌else◌, ◌&&◌}
+use Rattle.std.specs.Borrow.{Bor}
 use Rattle.std.specs.Str.Parse.{digits_value}
 use Rattle.job_text.specs.declared.stop.Stop.{Stop}
 use Rattle.job_text.specs.declared.stop.Stop.TheVariants as stop
@@ -13,6 +14,10 @@ Fails stop.NoMemory read = Unit {0}
 abbrev pub Gives : {T A : Type 0} → (T → A) → Result T Stop → Option A → Type 0
 Gives view (Ok x) read = read ≡ Some (view x)
 Gives view (Err e) read = Fails e read
+
+-- what was read, with what is left
+abbrev pub seen : {A B : Type 0} → A × Bor B → A × B
+seen p = (p.0, p.1.now)
 
 -- digits whose value fits
 abbrev pub value_of : List ℕ → Option ℕ

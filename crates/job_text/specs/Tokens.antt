@@ -37,16 +37,15 @@ abbrev pub longer_first : Option (Token × List ℕ) → Option (Token × List �
 longer_first (Some long) short = Some long
 longer_first None short = short
 
-abbrev pub mark_at : List ℕ → Option (Token × List ℕ)
-mark_at [] = None
-mark_at (byte ∷ []) = single_at byte []
-mark_at (byte ∷ next ∷ text) = longer_first (option_map (λ mark. (Mark mark, text)) (double_mark byte next)) (single_at byte (next ∷ text))
+abbrev pub mark_at : ℕ → List ℕ → Option (Token × List ℕ)
+mark_at byte [] = single_at byte []
+mark_at byte (next ∷ text) = longer_first (option_map (λ mark. (Mark mark, text)) (double_mark byte next)) (single_at byte (next ∷ text))
 
 -- the token at the front of a text, and what follows it
 abbrev pub first_token : List ℕ → Option (Token × List ℕ)
 first_token [] = None
 first_token (byte ∷ text) =
-    if is_digit byte then number_at (byte ∷ text) else if is_name_start byte then word_at (byte ∷ text) else mark_at (byte ∷ text)
+    if is_digit byte then number_at (byte ∷ text) else if is_name_start byte then word_at (byte ∷ text) else mark_at byte text
 
 -- these are the tokens of a text, blanks left out
 abbrev pub Lexes : List ℕ → List Token → Type 0

@@ -3,6 +3,7 @@
 //! Lines count from 1.
 #![tactic(auto)]
 
+mod lexer;
 mod lines;
 mod marks;
 mod numbers;

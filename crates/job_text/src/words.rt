@@ -3,7 +3,7 @@ ghost use Rattle.std.specs.List.{list_all};
 ghost use Rattle.job_text.specs.Words.{is_name_start, is_digit, is_name_byte, is_keyword, is_among, line_words, joining_words, place_words, level_words, starts_name, is_name, is_file_byte, is_file_name};
 
 /// A letter or `_`.
-fn is_name_start(byte: u8) -> bool
+pub(crate) fn is_name_start(byte: u8) -> bool
     ensures { result ≡ is_name_start byte }
 {
     matches!(byte, b'a'..=b'z' | b'A'..=b'Z' | b'_')
