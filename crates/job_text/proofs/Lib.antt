@@ -3,3 +3,5 @@ pub mod NumberLemmas
 pub mod PlaceLemmas
 pub mod TokenLemmas
 pub mod StopLemmas
+pub mod ListLemmas
+pub mod SumLemmas

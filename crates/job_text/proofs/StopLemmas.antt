@@ -3,7 +3,7 @@ use Rattle.std.proofs.Common.{◌≡◌, Option, None, Result, Err, sym, ap, sub
 use Rattle.std.specs.Result.{IsErrOf}
 use Rattle.job_text.specs.declared.stop.Stop.{Stop}
 use Rattle.job_text.specs.declared.stop.Stop.TheVariants as stop
-use Rattle.job_text.specs.Reading.{Fails}
+use Rattle.job_text.specs.Reading.{Fails, Gives}
 
 no_form : {A : Type 0} (e : Stop) (read : Option A) → e ≡ stop.NoForm → Fails e read → read ≡ None
 no_form stop.NoForm read is fails = fails
@@ -12,3 +12,11 @@ no_form stop.NoMemory read is fails = absurd cc
 -- at the exit of a `?`
 pub none_from : {T A : Type 0} (r : Result T Stop) (e : Stop) (read : Option A) → (y : Stop) × (r ≡ Err y) × (y ≡ e) → Fails e read → IsErrOf r stop.NoForm → read ≡ None
 none_from r e read p fails of = no_form e read (let q = p.1 in let s = p.2 in cc) fails
+
+-- the same, where what could not be read ends all
+pub gives_err : {T X A : Type 0} (view : T → A) (r : Result T Stop) (e : Stop) (one : Option X) (all : Option A) → (y : Stop) × (r ≡ Err y) × (y ≡ e) → Fails e one → (one ≡ None → all ≡ None) → Gives view r all
+gives_err view r e one all p fails ends = subst (λ t. Gives view t all) (sym p.1) (subst (λ y. Fails y all) (sym p.2) (fails_on e one all fails ends))
+  where
+    fails_on : {X A : Type 0} (e : Stop) (one : Option X) (all : Option A) → Fails e one → (one ≡ None → all ≡ None) → Fails e all
+    fails_on stop.NoForm one all fails ends = ends fails
+    fails_on stop.NoMemory one all fails ends = tt

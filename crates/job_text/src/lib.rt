@@ -8,5 +8,6 @@ mod lines;
 mod marks;
 mod numbers;
 mod stop;
+mod sums;
 mod tokens;
 mod words;

@@ -1,0 +1,106 @@
+-- What the readers of nest lines answer: what stands at the front of a list of tokens, and the tokens that are left.
+use Rattle.std.specs.Prelude.{◌≡◌, ℕ, ◌^◌, ◌+◌, Bool, true, false, Option, Some, None, option_map, option_and_then, List, [], ◌∷◌, ◌++◌, length, zero, suc, nat_lt, if◌then◌else◌}
+use Rattle.bern_base.specs.declared.raw.RawItem.{RawItem}
+use Rattle.bern_base.specs.declared.raw.RawSum.{RawSum}
+use Rattle.bern_base.specs.declared.raw.RawRef.{RawRef}
+use Rattle.bern_base.specs.declared.raw.RawExpr.{RawExpr, roll-RawExpr}
+use Rattle.bern_base.specs.declared.raw.RawProduct.{RawProduct, roll-RawProduct}
+use Rattle.bern_base.specs.declared.raw.RawFactor.{RawFactor}
+use Rattle.bern_base.specs.declared.raw.RawFactor.TheVariants as factor
+use Rattle.job_text.specs.declared.tokens.Token.{Token}
+use Rattle.job_text.specs.declared.tokens.Token.TheVariants.{Name, Num, Mark}
+use Rattle.job_text.specs.declared.tokens.Mark.TheVariants as m
+
+abbrev pub Reads : Type 0 → Type 0
+Reads A = Option (A × List Token)
+
+abbrev pub with_front : {A : Type 0} → List A → Reads (List A) → Reads (List A)
+with_front front None = None
+with_front front (Some p) = Some (front ++ p.0, p.1)
+
+-- things that `one` reads, as long as `join` finds what leads the next one; at most n of them
+module _ {A S : Type 0} (one : S → List Token → Reads A) (join : List Token → Reads S) where
+  abbrev pub carried : (S → List Token → Reads (List A)) → A → List Token → Reads S → Reads (List A)
+  carried more x tokens None = Some (x ∷ [], tokens)
+  carried more x tokens (Some p) = with_front (x ∷ []) (more p.0 p.1)
+
+  abbrev pub goes_on : (S → List Token → Reads (List A)) → Reads A → Reads (List A)
+  goes_on more None = None
+  goes_on more (Some p) = carried more p.0 p.1 (join p.1)
+
+  unfoldable pub list_at : ℕ → S → List Token → Reads (List A)
+  list_at zero state tokens = None
+  list_at (suc n) state tokens = goes_on (list_at n) (one state tokens)
+
+abbrev pub sign_at : List Token → Reads Bool
+sign_at (Mark m.Minus ∷ tokens) = Some (true, tokens)
+sign_at (Mark m.Plus ∷ tokens) = Some (false, tokens)
+sign_at tokens = None
+
+abbrev pub first_sign : List Token → Bool × List Token
+first_sign (Mark m.Minus ∷ tokens) = (true, tokens)
+first_sign tokens = (false, tokens)
+
+abbrev pub limited_item : Bool → ℕ → Option (List ℕ) → List Token → Reads RawItem
+limited_item minus n name tokens = if nat_lt n (2 ^ 32) then Some (record { minus = minus; number = n; name = name }, tokens) else None
+
+unfoldable pub item_at : Bool → List Token → Reads RawItem
+item_at minus (Num n ∷ Mark m.Star ∷ Name name ∷ tokens) = limited_item minus n (Some name) tokens
+item_at minus (Num n ∷ tokens) = limited_item minus n None tokens
+item_at minus (Name name ∷ tokens) = Some (record { minus = minus; number = 1; name = Some name }, tokens)
+item_at minus tokens = None
+
+abbrev pub items_at : Bool → List Token → Reads (List RawItem)
+items_at minus tokens = list_at item_at sign_at 8 minus tokens
+
+abbrev pub as_sum : List RawItem × List Token → RawSum × List Token
+as_sum p = (record { items = p.0 }, p.1)
+
+unfoldable pub sum_at : List Token → Reads RawSum
+sum_at tokens = option_map as_sum (items_at (first_sign tokens).0 (first_sign tokens).1)
+
+abbrev pub second_at : RawSum → List Token → Reads (List RawSum)
+second_at row (Mark m.Comma ∷ tokens) = option_map (λ p. (row ∷ p.0 ∷ [], p.1)) (sum_at tokens)
+second_at row tokens = Some (row ∷ [], tokens)
+
+unfoldable pub subs_at : List Token → Reads (List RawSum)
+subs_at tokens = option_and_then (λ p. second_at p.0 p.1) (sum_at tokens)
+
+abbrev pub closed_at : {A : Type 0} → A → List Token → Reads A
+closed_at x (Mark m.Close ∷ tokens) = Some (x, tokens)
+closed_at x tokens = None
+
+unfoldable pub ref_at : List Token → Reads RawRef
+ref_at (Name name ∷ Mark m.Open ∷ tokens) = option_and_then (λ p. closed_at (record { name = name; subs = p.0 }) p.1) (subs_at tokens)
+ref_at tokens = None
+
+abbrev pub star_at : List Token → Reads (Unit {0})
+star_at (Mark m.Star ∷ tokens) = Some (tt, tokens)
+star_at tokens = None
+
+abbrev pub unparen_at : RawExpr → List Token → Reads RawFactor
+unparen_at inner (Mark m.Unparen ∷ tokens) = Some (factor.Group inner, tokens)
+unparen_at inner tokens = None
+
+-- `inner` reads what stands in parentheses
+module _ (inner : List Token → Reads RawExpr) where
+  unfoldable pub factor_at : List Token → Reads RawFactor
+  factor_at (Num n ∷ tokens) = Some (factor.Num n, tokens)
+  factor_at (Mark m.Paren ∷ tokens) = option_and_then (λ p. unparen_at p.0 p.1) (inner tokens)
+  factor_at tokens = option_map (λ p. (factor.Read p.0, p.1)) (ref_at tokens)
+
+  abbrev pub starred_at : Unit {0} → List Token → Reads RawFactor
+  starred_at led tokens = factor_at tokens
+
+  abbrev pub factors_at : ℕ → List Token → Reads (List RawFactor)
+  factors_at n tokens = list_at starred_at star_at n tt tokens
+
+  unfoldable pub product_at : ℕ → Bool → List Token → Reads RawProduct
+  product_at n minus tokens = option_map (λ p. (roll-RawProduct (record { minus = minus; factors = p.0 }), p.1)) (factors_at n tokens)
+
+-- parentheses within parentheses at most this many levels deep, and lists of at most n
+unfoldable pub expr_at : ℕ → ℕ → List Token → Reads RawExpr
+expr_at n zero tokens = None
+expr_at n (suc levels) tokens =
+    option_map (λ p. (roll-RawExpr (record { sums = p.0 }), p.1))
+    (list_at (product_at (expr_at n levels) n) sign_at n (first_sign tokens).0 (first_sign tokens).1)
