@@ -69,8 +69,8 @@ sound_item minus tokens rest x is = absurd cc
 
 item-number : (minus : Bool) (n : ℕ) (rest : List Token) → NoStar rest → item_at minus (Num n ∷ rest) ≡ limited_item minus n None rest
 unfolding item_at
-item-number minus n (Mark m.Star ∷ rest) no = absurd no
-item-number minus n rest no = refl
+item-number minus n (Mark m.Star ∷ rest) free = absurd free
+item-number minus n rest free = refl
 
 item-times : (minus : Bool) (n : ℕ) (name : List ℕ) (rest : List Token) → item_at minus (Num n ∷ Mark m.Star ∷ Name name ∷ rest) ≡ limited_item minus n (Some name) rest
 unfolding item_at
@@ -81,16 +81,16 @@ unfolding item_at
 item-name minus name rest = refl
 
 complete_times : (minus : Bool) (n : ℕ) (name : Option (List ℕ)) (front rest : List Token) → IsTimes n name front → NoStar rest → item_at minus (front ++ rest) ≡ Some (record { minus = minus; number = n; name = name }, rest)
-complete_times minus n None front rest is no =
-    subst (λ f. item_at minus (f ++ rest) ≡ Some (record { minus = minus; number = n; name = None }, rest)) (sym is.1) (item-number minus n rest no ∙ limited-fits minus n None rest is.0)
-complete_times minus n (Some name) front rest (inl is) no =
+complete_times minus n None front rest is free =
+    subst (λ f. item_at minus (f ++ rest) ≡ Some (record { minus = minus; number = n; name = None }, rest)) (sym is.1) (item-number minus n rest free ∙ limited-fits minus n None rest is.0)
+complete_times minus n (Some name) front rest (inl is) free =
     subst (λ f. item_at minus (f ++ rest) ≡ Some (record { minus = minus; number = n; name = Some name }, rest)) (sym is.1) (item-times minus n name rest ∙ limited-fits minus n (Some name) rest is.0)
-complete_times minus n (Some name) front rest (inr is) no =
+complete_times minus n (Some name) front rest (inr is) free =
     subst (λ f. item_at minus (f ++ rest) ≡ Some (record { minus = minus; number = n; name = Some name }, rest)) (sym is.1)
     (item-name minus name rest ∙ ap (λ k. Some (record { minus = minus; number = k; name = Some name }, rest)) (sym is.0))
 
 pub complete_item : (minus : Bool) (front rest : List Token) (x : RawItem) → x.minus ≡ minus → IsItem x front → NoStar rest → item_at minus (front ++ rest) ≡ Some (x, rest)
-complete_item minus front rest x is times no = subst (λ b. item_at b (front ++ rest) ≡ Some (x, rest)) is (complete_times x.minus x.number x.name front rest times no)
+complete_item minus front rest x is times free = subst (λ b. item_at b (front ++ rest) ≡ Some (x, rest)) is (complete_times x.minus x.number x.name front rest times free)
 
 times_some : (n : ℕ) (name : Option (List ℕ)) (tokens : List Token) → IsTimes n name tokens → tokens ≢ []
 times_some n None tokens is none = let e = is.1 in cc
@@ -145,9 +145,7 @@ unfolding sum_at
 sound_sum tokens rest x is =
     let first = first_sign tokens in
     let read = mapped-some as_sum (items_at first.0 first.1) (x, rest) is in
-    let same = ap (λ p. p.0) read.2 in
-    let left = ap (λ p. p.1) read.2 in
-    let read_is : items_at first.0 first.1 ≡ Some (x.items, rest) = ?  in
+    let read_is : items_at first.0 first.1 ≡ Some (x.items, rest) = read.1 ∙ ap (λ q. Some (q.0.items, q.1)) read.2 in
     let found = sound_list IsItem sign (λ i. i.minus) item_at sign_at (λ s ts r i e. sound_item s ts r i e) joins_sign 8 first.0 first.1 rest x.items read_is in
     let all = sound_signed IsItem (λ i. i.minus) x.items rest tokens found in
     (all.0, all.1, record { items = all.2; at_most = list_few item_at sign_at 8 first.0 first.1 x.items rest read_is })
@@ -157,6 +155,67 @@ unfolding sum_at
 complete_sum front rest x is stops =
     let read = complete_signed IsItem (λ i. i.minus) (λ i ts e. times_some i.number i.name ts e) items_at x.items front rest
         (λ s tail below spread. complete_list IsItem sign (λ i. i.minus) item_at sign_at NoStar (suc (length (front ++ rest)))
-            (λ b f r i e it no _. complete_item b f r i e it no) sign_no_star joined_sign x.items 8 s tail rest is.at_most spread (Stops-star rest stops) (Stops-sign rest stops) (omega arith))
+            (λ b f r i e it free _. complete_item b f r i e it free) sign_no_star joined_sign x.items 8 s tail rest is.at_most spread (Stops-star rest stops) (Stops-sign rest stops) (omega arith))
         is.items in
     ap (option_map as_sum) read
+
+sum_some : (x : RawSum) (tokens : List Token) → IsSum x tokens → tokens ≢ []
+sum_some x tokens is none = signed_some IsItem (λ i. i.minus) (λ i ts e. times_some i.number i.name ts e) x.items (subst (λ ts. Spread (Led item_sign IsItem) x.items (with_sign ts)) none is.items)
+
+abbrev ReadsSubs : List Token → List Token → List RawSum → Type 0
+ReadsSubs tokens rest subs = (front : List Token) × (tokens ≡ front ++ rest) × AreSubs subs front
+
+sound_second : (row : RawSum) (front after rest : List Token) (subs : List RawSum) → IsSum row front → second_at row after ≡ Some (subs, rest) → ReadsSubs (front ++ after) rest subs
+sound_second row front (Mark m.Comma ∷ after) rest subs first is =
+    let read = mapped-some (λ p. (row ∷ p.0 ∷ [], p.1)) (sum_at after) (subs, rest) is in
+    let same = some_pair_parts (row ∷ read.0.0 ∷ []) subs read.0.1 rest (ap Some read.2) in
+    let found = sound_sum after rest read.0.0 (read.1 ∙ ap (λ r. Some (read.0.0, r)) same.1) in
+    let whole : front ++ Mark m.Comma ∷ after ≡ (front ++ Mark m.Comma ∷ found.0) ++ rest = ap (λ t. front ++ Mark m.Comma ∷ t) found.1 ∙ sym (append_assoc front (Mark m.Comma ∷ found.0) rest) in
+    subst (ReadsSubs (front ++ Mark m.Comma ∷ after) rest) same.0 (front ++ Mark m.Comma ∷ found.0, whole, (front, found.0, refl, first, found.2))
+sound_second row front after rest subs first is =
+    let same = some_pair_parts (row ∷ []) subs after rest is in
+    subst (ReadsSubs (front ++ after) rest) same.0 (front, ap (λ t. front ++ t) same.1, first)
+
+sound_subs : (tokens rest : List Token) (subs : List RawSum) → subs_at tokens ≡ Some (subs, rest) → ReadsSubs tokens rest subs
+unfolding subs_at
+sound_subs tokens rest subs is =
+    let read = bound-some (λ p. second_at p.0 p.1) (sum_at tokens) (subs, rest) is in
+    let first = sound_sum tokens read.0.1 read.0.0 read.1 in
+    subst (λ ts. ReadsSubs ts rest subs) (sym first.1) (sound_second read.0.0 first.0 read.0.1 rest subs first.2 read.2)
+
+complete_subs : (front rest : List Token) (subs : List RawSum) → AreSubs subs front → subs_at (front ++ Mark m.Close ∷ rest) ≡ Some (subs, Mark m.Close ∷ rest)
+unfolding subs_at
+complete_subs front rest [] is = absurd is
+complete_subs front rest (only ∷ []) is = ap (option_and_then (λ p. second_at p.0 p.1)) (complete_sum front (Mark m.Close ∷ rest) only is tt)
+complete_subs front rest (row ∷ col ∷ []) is =
+    let whole : front ++ Mark m.Close ∷ rest ≡ is.0 ++ Mark m.Comma ∷ (is.1 ++ Mark m.Close ∷ rest) = ap (λ f. f ++ Mark m.Close ∷ rest) is.2 ∙ append_assoc is.0 (Mark m.Comma ∷ is.1) (Mark m.Close ∷ rest) in
+    let first = complete_sum is.0 (Mark m.Comma ∷ (is.1 ++ Mark m.Close ∷ rest)) row is.3 tt in
+    let second = complete_sum is.1 (Mark m.Close ∷ rest) col is.4 tt in
+    ap (λ ts. option_and_then (λ p. second_at p.0 p.1) (sum_at ts)) whole ∙ ap (option_and_then (λ p. second_at p.0 p.1)) first ∙ ap (option_map (λ p. (row ∷ p.0 ∷ [], p.1))) second
+complete_subs front rest (row ∷ col ∷ more ∷ subs) is = absurd is
+
+abbrev ReadsRef : List Token → List Token → RawRef → Type 0
+ReadsRef tokens rest x = (front : List Token) × (tokens ≡ front ++ rest) × IsRef x front
+
+sound_closed : (name : List ℕ) (subs : List RawSum) (front after rest : List Token) (x : RawRef) → AreSubs subs front → closed_at (record { name = name; subs = subs }) after ≡ Some (x, rest) → ReadsRef (Name name ∷ Mark m.Open ∷ (front ++ after)) rest x
+sound_closed name subs front (Mark m.Close ∷ after) rest x are is =
+    let same = some_pair_parts (record { name = name; subs = subs }) x after rest is in
+    let whole : Name name ∷ Mark m.Open ∷ (front ++ Mark m.Close ∷ after) ≡ (Name name ∷ Mark m.Open ∷ front ++ Mark m.Close ∷ []) ++ rest =
+        ap (λ t. Name name ∷ Mark m.Open ∷ t) (sym (append_assoc front (Mark m.Close ∷ []) after)) ∙ ap (λ t. (Name name ∷ Mark m.Open ∷ front ++ Mark m.Close ∷ []) ++ t) same.1 in
+    subst (ReadsRef (Name name ∷ Mark m.Open ∷ (front ++ Mark m.Close ∷ after)) rest) same.0 (Name name ∷ Mark m.Open ∷ front ++ Mark m.Close ∷ [], whole, (front, refl, are))
+sound_closed name subs front after rest x are is = absurd cc
+
+pub sound_ref : (tokens rest : List Token) (x : RawRef) → ref_at tokens ≡ Some (x, rest) → ReadsRef tokens rest x
+unfolding ref_at
+sound_ref (Name name ∷ Mark m.Open ∷ tokens) rest x is =
+    let read = bound-some (λ p. closed_at (record { name = name; subs = p.0 }) p.1) (subs_at tokens) (x, rest) is in
+    let first = sound_subs tokens read.0.1 read.0.0 read.1 in
+    subst (λ ts. ReadsRef (Name name ∷ Mark m.Open ∷ ts) rest x) (sym first.1) (sound_closed name read.0.0 first.0 read.0.1 rest x first.2 read.2)
+sound_ref tokens rest x is = absurd cc
+
+pub complete_ref : (front rest : List Token) (x : RawRef) → IsRef x front → ref_at (front ++ rest) ≡ Some (x, rest)
+unfolding ref_at
+complete_ref front rest x is =
+    let whole : front ++ rest ≡ Name x.name ∷ Mark m.Open ∷ (is.0 ++ Mark m.Close ∷ rest) =
+        ap (λ f. f ++ rest) is.1 ∙ ap (λ t. Name x.name ∷ Mark m.Open ∷ t) (append_assoc is.0 (Mark m.Close ∷ []) rest) in
+    ap ref_at whole ∙ ap (option_and_then (λ p. closed_at (record { name = x.name; subs = p.0 }) p.1)) (complete_subs is.0 rest x.subs is.2)
