@@ -5,3 +5,4 @@ pub mod TokenLemmas
 pub mod StopLemmas
 pub mod ListLemmas
 pub mod SumLemmas
+pub mod ExpressionLemmas

@@ -76,6 +76,18 @@ module _ {A S : Type 0} (Is : A → List Token → Type 0) (mark : S → Token) 
       let first = ap length is.3.1 in
       omega arith
 
+  -- a leading token alone spells no list of things that have tokens
+  pub spread_some : (some : (x : A) (ts : List Token) → Is x ts → ts ≢ []) (xs : List A) (token : Token) → Spread (Led lead Is) xs (token ∷ []) → ⊥
+  spread_some some [] token is = let e = is in cc
+  spread_some some (x ∷ xs) token is =
+      let whole : token ∷ [] ≡ (lead x ∷ is.3.0) ++ is.1 = is.2 ∙ ap (λ f. f ++ is.1) is.3.1 in
+      let none : [] ≡ is.3.0 ++ is.1 = cc in
+      some x is.3.0 is.3.2 (front_nil is.3.0 is.1 none)
+    where
+      front_nil : (a b : List Token) → [] ≡ a ++ b → a ≡ []
+      front_nil [] b e = refl
+      front_nil (t ∷ a) b e = absurd cc
+
   spread_begins : (x : A) (xs : List A) (ts : List Token) → Spread (Led lead Is) (x ∷ xs) ts → (tail : List Token) × (ts ≡ lead x ∷ tail)
   spread_begins x xs ts is = (is.3.0 ++ is.1, is.2 ∙ ap (λ f. f ++ is.1) is.3.1)
 
@@ -125,3 +137,33 @@ module _ {A S : Type 0} (Is : A → List Token → Type 0) (mark : S → Token) 
               (complete s is.3.0 (lead y ∷ next.0 ++ rest) x led is.3.2 (goes (state y) (next.0 ++ rest)) (rw (sym all) below)) in
           let later = complete_list (y ∷ ys) n (state y) next.0 rest (omega arith) (subst (Spread (Led lead Is) (y ∷ ys)) next.1 is.4) end last (omega arith) in
           list_on one join n s (state y) (front ++ rest) (lead y ∷ next.0 ++ rest) (next.0 ++ rest) x first (joined (state y) (next.0 ++ rest)) ∙ ap (with_front (x ∷ [])) later
+
+-- what a loop without a limit keeps: with fuel for all tokens that are left, what was read and what is left give all
+pub record Carries {A S : Type 0} (one : S → List Token → Reads A) (join : List Token → Reads S) (front : List A) (s : S) (ts : List Token) (all : Reads (List A)) : Type 0 where
+  pub fuel : ℕ
+  pub enough : length ts < fuel
+  pub carries : with_front front (list_at one join fuel s ts) ≡ all
+
+one_more : (n k : ℕ) → n < k → (j : ℕ) × (k ≡ suc j)
+one_more n zero below = absurd (omega arith)
+one_more n (suc k) below = (k, refl)
+
+module _ {A S : Type 0} (one : S → List Token → Reads A) (join : List Token → Reads S) where
+  pub carries_first : (n : ℕ) (s : S) (ts : List Token) → length ts < n → Carries one join [] s ts (list_at one join n s ts)
+  carries_first n s ts below = record { fuel = n; enough = below; carries = with_front-nil _ }
+
+  module _ (front : List A) (s : S) (ts : List Token) (all : Reads (List A)) (c : Carries one join front s ts all) where
+    so_far : (j : ℕ) → c.fuel ≡ suc j → with_front front (list_at one join (suc j) s ts) ≡ all
+    so_far j is = subst (λ k. with_front front (list_at one join k s ts) ≡ all) is c.carries
+
+    pub carries_fail : one s ts ≡ None → all ≡ None
+    carries_fail = let m = one_more (length ts) c.fuel c.enough in reads_fail one join front m.0 s ts all (so_far m.0 m.1)
+
+    pub carries_end : (after : List Token) (x : A) → one s ts ≡ Some (x, after) → join after ≡ None → all ≡ Some (front ++ x ∷ [], after)
+    carries_end = let m = one_more (length ts) c.fuel c.enough in reads_end one join front m.0 s ts all (so_far m.0 m.1)
+
+    pub carries_on : (next_s : S) (after next : List Token) (x : A) → one s ts ≡ Some (x, after) → join after ≡ Some (next_s, next) → length next < length ts → Carries one join (front ++ x ∷ []) next_s next all
+    carries_on next_s after next x read joins shorter =
+        let m = one_more (length ts) c.fuel c.enough in
+        let fuel = c.enough in
+        record { fuel = m.0; enough = omega arith; carries = reads_on one join front m.0 s ts all (so_far m.0 m.1) next_s after next x read joins }

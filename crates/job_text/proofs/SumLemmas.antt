@@ -12,7 +12,7 @@ use Rattle.job_text.specs.declared.tokens.Mark.TheVariants as m
 use Rattle.job_text.specs.Grammar.{Spread, Led, sign, with_sign, IsTimes, IsItem, item_sign, IsSum, AreSubs, IsRef}
 use Rattle.job_text.specs.NestReading.{Reads, list_at, sign_at, first_sign, limited_item, item_at, items_at, as_sum, sum_at, second_at, subs_at, closed_at, ref_at}
 use Rattle.job_text.proofs.TokenLemmas.{mapped-some}
-use Rattle.job_text.proofs.ListLemmas.{sound_list, complete_list, list_few}
+use Rattle.job_text.proofs.ListLemmas.{sound_list, complete_list, list_few, spread_some}
 
 pub bound-some : {A B : Type 0} (f : A → Option B) (o : Option A) (y : B) → option_and_then f o ≡ Some y → (x : A) × (o ≡ Some x) × (f x ≡ Some y)
 bound-some f None y is = absurd cc
@@ -112,22 +112,14 @@ module _ {A : Type 0} (Is : A → List Token → Type 0) (minus : A → Bool) wh
     sound_signed tokens found = (found.0, found.1, subst (AreSigned xs) (sym (plain_sign tokens found.0 rest refl found.1)) found.2)
 
   signed_some : (some : (x : A) (tokens : List Token) → Is x tokens → tokens ≢ []) (xs : List A) → AreSigned xs (Mark m.Plus ∷ []) → ⊥
-  signed_some some [] is = let e = is in cc
-  signed_some some (x ∷ xs) is =
-      let whole : Mark m.Plus ∷ [] ≡ (sign (minus x) ∷ is.3.0) ++ is.1 = is.2 ∙ ap (λ f. f ++ is.1) is.3.1 in
-      let none : [] ≡ is.3.0 ++ is.1 = cc in
-      some x is.3.0 is.3.2 (front_nil is.3.0 is.1 none)
-    where
-      front_nil : (a b : List Token) → [] ≡ a ++ b → a ≡ []
-      front_nil [] b e = refl
-      front_nil (t ∷ a) b e = absurd cc
+  signed_some some xs is = spread_some Is sign minus some xs (Mark m.Plus) is
 
   pub complete_signed : (some : (x : A) (tokens : List Token) → Is x tokens → tokens ≢ []) (read : Bool → List Token → Reads (List A)) (xs : List A) (front rest : List Token) → ((s : Bool) (tail : List Token) → length (tail ++ rest) ≤ length (front ++ rest) → AreSigned xs (sign s ∷ tail) → read s (tail ++ rest) ≡ Some (xs, rest)) → AreSigned xs (with_sign front) → read (first_sign (front ++ rest)).0 (first_sign (front ++ rest)).1 ≡ Some (xs, rest)
   complete_signed some read xs [] rest complete is = absurd (signed_some some xs is)
   complete_signed some read xs (Mark m.Minus ∷ front) rest complete is = complete true front (omega arith) is
   complete_signed some read xs (token ∷ front) rest complete is = complete false (token ∷ front) (omega arith) is
 
-joins_sign : (tokens rest : List Token) (s : Bool) → sign_at tokens ≡ Some (s, rest) → tokens ≡ sign s ∷ rest
+pub joins_sign : (tokens rest : List Token) (s : Bool) → sign_at tokens ≡ Some (s, rest) → tokens ≡ sign s ∷ rest
 joins_sign (Mark m.Minus ∷ tokens) rest s is = let same = some_pair_parts true s tokens rest is in ap (λ t. Mark m.Minus ∷ t) same.1 ∙ ap (λ b. sign b ∷ rest) same.0
 joins_sign (Mark m.Plus ∷ tokens) rest s is = let same = some_pair_parts false s tokens rest is in ap (λ t. Mark m.Plus ∷ t) same.1 ∙ ap (λ b. sign b ∷ rest) same.0
 joins_sign tokens rest s is = absurd cc
@@ -136,7 +128,7 @@ pub joined_sign : (s : Bool) (rest : List Token) → sign_at (sign s ∷ rest) �
 joined_sign true rest = refl
 joined_sign false rest = refl
 
-sign_no_star : (s : Bool) (rest : List Token) → NoStar (sign s ∷ rest)
+pub sign_no_star : (s : Bool) (rest : List Token) → NoStar (sign s ∷ rest)
 sign_no_star true rest = tt
 sign_no_star false rest = tt
 

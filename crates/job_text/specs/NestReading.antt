@@ -82,12 +82,15 @@ abbrev pub unparen_at : RawExpr → List Token → Reads RawFactor
 unparen_at inner (Mark m.Unparen ∷ tokens) = Some (factor.Group inner, tokens)
 unparen_at inner tokens = None
 
+abbrev pub as_read : RawRef × List Token → RawFactor × List Token
+as_read p = (factor.Read p.0, p.1)
+
 -- `inner` reads what stands in parentheses
 module _ (inner : List Token → Reads RawExpr) where
   unfoldable pub factor_at : List Token → Reads RawFactor
   factor_at (Num n ∷ tokens) = Some (factor.Num n, tokens)
   factor_at (Mark m.Paren ∷ tokens) = option_and_then (λ p. unparen_at p.0 p.1) (inner tokens)
-  factor_at tokens = option_map (λ p. (factor.Read p.0, p.1)) (ref_at tokens)
+  factor_at tokens = option_map as_read (ref_at tokens)
 
   abbrev pub starred_at : Unit {0} → List Token → Reads RawFactor
   starred_at led tokens = factor_at tokens
@@ -104,3 +107,6 @@ expr_at n zero tokens = None
 expr_at n (suc levels) tokens =
     option_map (λ p. (roll-RawExpr (record { sums = p.0 }), p.1))
     (list_at (product_at (expr_at n levels) n) sign_at n (first_sign tokens).0 (first_sign tokens).1)
+
+abbrev pub products_at : ℕ → ℕ → Bool → List Token → Reads (List RawProduct)
+products_at n levels minus tokens = list_at (product_at (expr_at n levels) n) sign_at n minus tokens

@@ -3,6 +3,7 @@
 //! Lines count from 1.
 #![tactic(auto)]
 
+mod expressions;
 mod lexer;
 mod lines;
 mod marks;
