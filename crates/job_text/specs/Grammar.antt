@@ -83,3 +83,50 @@ product_sign product = sign product.minus
 unfoldable pub IsExpr : ℕ → RawExpr → List Token → Type 0
 IsExpr zero expr tokens = ⊥
 IsExpr (suc levels) expr tokens = Spread (Led product_sign (IsProduct (IsExpr levels))) (out-RawExpr expr).sums (with_sign tokens)
+
+-- a variable's first bound and the one that it stays below
+abbrev pub IsSpan : RawVar → List Token → Type 0
+IsSpan var tokens = (lo hi : List Token) × (tokens ≡ lo ++ Mark m.Dots ∷ hi) × IsSum var.lo lo × IsSum var.hi hi
+
+abbrev pub var_name : RawVar → Token
+var_name var = Name var.name
+
+abbrev pub comparison : Rel → Token
+comparison rel.Lt = Mark m.Lt
+comparison rel.Le = Mark m.Le
+comparison rel.Gt = Mark m.Gt
+comparison rel.Ge = Mark m.Ge
+comparison rel.Eq = Mark m.Eq
+comparison rel.Ne = Mark m.Ne
+
+abbrev pub IsGuard : RawGuard → List Token → Type 0
+IsGuard guard tokens = (left right : List Token) × (tokens ≡ left ++ comparison guard.rel ∷ right) × IsSum guard.left left × IsSum guard.right right
+
+abbrev pub comma : RawGuard → Token
+comma guard = Mark m.Comma
+
+-- nothing, or guards behind `where` with commas between them: as though a comma led the first one too
+abbrev pub AreGuards : List RawGuard → List Token → Type 0
+AreGuards [] tokens = tokens ≡ []
+AreGuards (guard ∷ guards) tokens = (rest : List Token) × (tokens ≡ Mark m.Where ∷ rest) × Spread (Led comma IsGuard) (guard ∷ guards) (Mark m.Comma ∷ rest)
+
+abbrev pub assignment : Bool → Token
+assignment true = Mark m.Assign
+assignment false = Mark m.Add
+
+-- how deep expressions may stand in one another: 16 pairs of parentheses
+abbrev pub levels : ℕ
+levels = 17
+
+-- a nest is `doany`, one or more variables, its guards, a colon, the target, `=` or `+=`, and the body
+pub record IsNest (nest : RawNest) (tokens : List Token) : Type 0 where
+  pub vars : List Token
+  pub guards : List Token
+  pub target : List Token
+  pub body : List Token
+  pub whole : tokens ≡ Mark m.Doany ∷ (vars ++ (guards ++ (Mark m.Colon ∷ (target ++ (assignment nest.replace ∷ body)))))
+  pub are_vars : Spread (Led var_name IsSpan) nest.vars vars
+  pub some_vars : nest.vars ≢ []
+  pub are_guards : AreGuards nest.guards guards
+  pub is_target : IsRef nest.target target
+  pub is_body : IsExpr levels nest.body body

@@ -3,6 +3,11 @@ use Rattle.std.specs.Prelude.{◌≡◌, ℕ, ◌^◌, ◌+◌, Bool, true, fals
 use Rattle.bern_base.specs.declared.raw.RawItem.{RawItem}
 use Rattle.bern_base.specs.declared.raw.RawSum.{RawSum}
 use Rattle.bern_base.specs.declared.raw.RawRef.{RawRef}
+use Rattle.bern_base.specs.declared.raw.RawVar.{RawVar}
+use Rattle.bern_base.specs.declared.raw.RawGuard.{RawGuard}
+use Rattle.bern_base.specs.declared.raw.RawNest.{RawNest}
+use Rattle.bern_base.specs.declared.raw.Rel.{Rel}
+use Rattle.bern_base.specs.declared.raw.Rel.TheVariants as rel
 use Rattle.bern_base.specs.declared.raw.RawExpr.{RawExpr, roll-RawExpr}
 use Rattle.bern_base.specs.declared.raw.RawProduct.{RawProduct, roll-RawProduct}
 use Rattle.bern_base.specs.declared.raw.RawFactor.{RawFactor}
@@ -110,3 +115,90 @@ expr_at n (suc levels) tokens =
 
 abbrev pub products_at : ℕ → ℕ → Bool → List Token → Reads (List RawProduct)
 products_at n levels minus tokens = list_at (product_at (expr_at n levels) n) sign_at n minus tokens
+
+abbrev pub as_var : List ℕ → RawSum → RawSum × List Token → RawVar × List Token
+as_var name lo p = (record { name = name; lo = lo; hi = p.0 }, p.1)
+
+abbrev pub to_at : List ℕ → RawSum → List Token → Reads RawVar
+to_at name lo (Mark m.Dots ∷ tokens) = option_map (as_var name lo) (sum_at tokens)
+to_at name lo tokens = None
+
+unfoldable pub span_at : List ℕ → List Token → Reads RawVar
+span_at name tokens = option_and_then (λ p. to_at name p.0 p.1) (sum_at tokens)
+
+abbrev pub name_at : List Token → Reads (List ℕ)
+name_at (Name name ∷ tokens) = Some (name, tokens)
+name_at tokens = None
+
+abbrev pub vars_from : ℕ → List ℕ → List Token → Reads (List RawVar)
+vars_from n name tokens = list_at span_at name_at n name tokens
+
+abbrev pub vars_at : ℕ → List Token → Reads (List RawVar)
+vars_at n (Name name ∷ tokens) = vars_from n name tokens
+vars_at n tokens = None
+
+abbrev pub rel_at : List Token → Reads Rel
+rel_at (Mark m.Lt ∷ tokens) = Some (rel.Lt, tokens)
+rel_at (Mark m.Le ∷ tokens) = Some (rel.Le, tokens)
+rel_at (Mark m.Gt ∷ tokens) = Some (rel.Gt, tokens)
+rel_at (Mark m.Ge ∷ tokens) = Some (rel.Ge, tokens)
+rel_at (Mark m.Eq ∷ tokens) = Some (rel.Eq, tokens)
+rel_at (Mark m.Ne ∷ tokens) = Some (rel.Ne, tokens)
+rel_at tokens = None
+
+abbrev pub as_guard : RawSum → Rel → RawSum × List Token → RawGuard × List Token
+as_guard left relation p = (record { left = left; rel = relation; right = p.0 }, p.1)
+
+abbrev pub right_at : RawSum → Rel × List Token → Reads RawGuard
+right_at left p = option_map (as_guard left p.0) (sum_at p.1)
+
+abbrev pub compared_at : RawSum → List Token → Reads RawGuard
+compared_at left tokens = option_and_then (right_at left) (rel_at tokens)
+
+unfoldable pub guard_at : Unit {0} → List Token → Reads RawGuard
+guard_at led tokens = option_and_then (λ p. compared_at p.0 p.1) (sum_at tokens)
+
+abbrev pub comma_at : List Token → Reads (Unit {0})
+comma_at (Mark m.Comma ∷ tokens) = Some (tt, tokens)
+comma_at tokens = None
+
+abbrev pub guards_from : ℕ → List Token → Reads (List RawGuard)
+guards_from n tokens = list_at guard_at comma_at n tt tokens
+
+abbrev pub guards_at : ℕ → List Token → Reads (List RawGuard)
+guards_at n (Mark m.Where ∷ tokens) = guards_from n tokens
+guards_at n tokens = Some ([], tokens)
+
+-- nothing is left
+abbrev pub ended_at : {A : Type 0} → A → List Token → Option A
+ended_at x [] = Some x
+ended_at x (token ∷ tokens) = None
+
+unfoldable pub whole_at : ℕ → List Token → Option RawExpr
+whole_at n tokens = option_and_then (λ p. ended_at p.0 p.1) (expr_at n 17 tokens)
+
+abbrev pub assign_at : List Token → Reads Bool
+assign_at (Mark m.Assign ∷ tokens) = Some (true, tokens)
+assign_at (Mark m.Add ∷ tokens) = Some (false, tokens)
+assign_at tokens = None
+
+abbrev pub as_nest : List RawVar → List RawGuard → RawRef → Bool → RawExpr → RawNest
+as_nest vars guards target replace body = record { vars = vars; guards = guards; target = target; replace = replace; body = body }
+
+abbrev pub body_at : ℕ → List RawVar → List RawGuard → RawRef → Bool × List Token → Option RawNest
+body_at n vars guards target p = option_map (as_nest vars guards target p.0) (whole_at n p.1)
+
+abbrev pub assigned_at : ℕ → List RawVar → List RawGuard → RawRef × List Token → Option RawNest
+assigned_at n vars guards p = option_and_then (body_at n vars guards p.0) (assign_at p.1)
+
+-- from the colon on
+unfoldable pub statement_at : ℕ → List RawVar → List RawGuard → List Token → Option RawNest
+statement_at n vars guards (Mark m.Colon ∷ tokens) = option_and_then (assigned_at n vars guards) (ref_at tokens)
+statement_at n vars guards tokens = None
+
+abbrev pub guarded_at : ℕ → List RawVar × List Token → Option RawNest
+guarded_at n p = option_and_then (λ q. statement_at n p.0 q.0 q.1) (guards_at n p.1)
+
+unfoldable pub nest_at : ℕ → List Token → Option RawNest
+nest_at n (Mark m.Doany ∷ tokens) = option_and_then (guarded_at n) (vars_at n tokens)
+nest_at n tokens = None

@@ -22,6 +22,9 @@ seen p = (p.0, p.1.now)
 abbrev pub behind : {B : Type 0} → Bor B → Unit {0} × B
 behind rest = (tt, rest.now)
 
+abbrev pub named : {A B : Type 0} → Bor A × Bor B → A × B
+named p = (p.0.now, p.1.now)
+
 -- digits whose value fits
 abbrev pub value_of : List ℕ → Option ℕ
 value_of word = if nat_lt (digits_value 10 word) (2 ^ 64) then Some (digits_value 10 word) else None
