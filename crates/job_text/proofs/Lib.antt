@@ -6,3 +6,4 @@ pub mod StopLemmas
 pub mod ListLemmas
 pub mod SumLemmas
 pub mod ExpressionLemmas
+pub mod NestLemmas

@@ -88,7 +88,7 @@ module _ {A S : Type 0} (Is : A → List Token → Type 0) (mark : S → Token) 
       front_nil [] b e = refl
       front_nil (t ∷ a) b e = absurd cc
 
-  spread_begins : (x : A) (xs : List A) (ts : List Token) → Spread (Led lead Is) (x ∷ xs) ts → (tail : List Token) × (ts ≡ lead x ∷ tail)
+  pub spread_begins : (x : A) (xs : List A) (ts : List Token) → Spread (Led lead Is) (x ∷ xs) ts → (tail : List Token) × (ts ≡ lead x ∷ tail)
   spread_begins x xs ts is = (is.3.0 ++ is.1, is.2 ∙ ap (λ f. f ++ is.1) is.3.1)
 
   module _ (one : S → List Token → Reads A) (join : List Token → Reads S) where
