@@ -7,3 +7,4 @@ pub mod ListLemmas
 pub mod SumLemmas
 pub mod ExpressionLemmas
 pub mod NestLemmas
+pub mod FormLemmas

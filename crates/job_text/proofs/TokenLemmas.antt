@@ -5,7 +5,7 @@ use Rattle.std.proofs.lemmas.Bool.{cases_Bool, cond-true, cond-false}
 use Rattle.job_text.specs.declared.tokens.Token.{Token}
 use Rattle.job_text.specs.declared.tokens.Token.TheVariants.{Mark}
 use Rattle.job_text.specs.Lines.{trimmed, is_blank}
-use Rattle.job_text.specs.Words.{is_digit, is_name_start}
+use Rattle.job_text.specs.Names.{is_digit, is_name_start}
 use Rattle.job_text.specs.Marks.{double_mark, single_mark}
 use Rattle.job_text.specs.Tokens.{first_token, number_at, digits_end, word_at, word_end, word_token, mark_at, single_at, longer_first, Lexes}
 use Rattle.job_text.specs.Reading.{number_of}

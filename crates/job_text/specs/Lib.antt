@@ -1,7 +1,9 @@
+pub mod Forms
 pub mod Grammar
 pub mod Lines
 pub mod Marks
+pub mod Names
 pub mod NestReading
 pub mod Reading
 pub mod Tokens
-pub mod Words
+pub mod WordReading

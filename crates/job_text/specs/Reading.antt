@@ -4,7 +4,7 @@ use Rattle.std.specs.Borrow.{Bor}
 use Rattle.std.specs.Str.Parse.{digits_value}
 use Rattle.job_text.specs.declared.stop.Stop.{Stop}
 use Rattle.job_text.specs.declared.stop.Stop.TheVariants as stop
-use Rattle.job_text.specs.Words.{is_numeral}
+use Rattle.job_text.specs.Names.{is_numeral}
 
 -- an answer without a form says that there is none; want of memory says nothing
 abbrev pub Fails : {A : Type 0} → Stop → Option A → Type 0

@@ -6,7 +6,7 @@ use Rattle.job_text.specs.declared.tokens.Token.{Token}
 use Rattle.job_text.specs.declared.tokens.Token.TheVariants.{Name, Num, Mark}
 use Rattle.job_text.specs.declared.tokens.Mark.TheVariants as m
 use Rattle.job_text.specs.Lines.{trimmed}
-use Rattle.job_text.specs.Words.{is_digit, is_name_start, is_name_byte, is_name}
+use Rattle.job_text.specs.Names.{is_digit, is_name_start, is_name_byte, is_name}
 use Rattle.job_text.specs.Marks.{double_mark, single_mark}
 use Rattle.job_text.specs.Reading.{number_of}
 

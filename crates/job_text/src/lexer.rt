@@ -1,7 +1,7 @@
 ghost use Rattle.std.specs.Prelude.{◌≡◌, ◌<◌, ◌≤◌, length, true, List, IfOk, IsErrOf};
 ghost use Rattle.std.specs.List.{position_or_len};
 ghost use Rattle.job_text.specs.declared.tokens.Token.{Token};
-ghost use Rattle.job_text.specs.Words.{is_digit, is_name_start};
+ghost use Rattle.job_text.specs.Names.{is_digit, is_name_start};
 ghost use Rattle.job_text.specs.Tokens.{single_at, mark_at, digits_end, number_at, word_end, word_token, word_at, first_token, Lexes};
 ghost use Rattle.job_text.specs.Reading.{Gives, seen};
 
@@ -10,7 +10,7 @@ use crate::marks::{double_mark, single_mark};
 use crate::numbers::number;
 use crate::stop::Stop;
 use crate::tokens::{Mark, Token};
-use crate::words::{is_digit, is_name, is_name_byte, is_name_start};
+use crate::names::{is_digit, is_name, is_name_byte, is_name_start};
 use bern_base::Text;
 use std::alloc::Global;
 

@@ -7,6 +7,7 @@ mod expressions;
 mod lexer;
 mod lines;
 mod marks;
+mod names;
 mod nests;
 mod numbers;
 mod stop;

@@ -2,7 +2,7 @@ ghost use Rattle.std.specs.Prelude.{◌≡◌, map, IfOk};
 ghost use Rattle.std.specs.List.{before_first, position_or_len};
 ghost use Rattle.std.specs.Str.Lines.{strip_carriage_return};
 ghost use Rattle.bstr.specs.Text.{lines_of};
-ghost use Rattle.job_text.specs.Lines.{without_feed, is_hash, is_blank, is_some_text, trimmed, said, words};
+ghost use Rattle.job_text.specs.Lines.{without_feed, is_hash, is_blank, is_some_text, trimmed, said};
 
 use crate::stop::Stop;
 use bstr::ByteSlice;
@@ -74,18 +74,8 @@ pub(crate) fn trimmed(text: &[u8]) -> &[u8]
     rest
 }
 
-/// The words of a text, which blanks separate.
-pub(crate) fn words<'a>(alloc: Global, text: &'a [u8]) -> Result<Vec<&'a [u8]>, Stop>
-    ensures { IfOk result (λ found. map (λ word. word.now) found.items ≡ words text.now) }
-{
-    let words = text
-        .split(|byte| is_blank(*byte))
-        .filter(|word| is_some_text(word))
-        .collect(alloc)?;
-    Ok(words)
-}
-
-fn is_blank(byte: u8) -> bool
+/// A space or a tab.
+pub(crate) fn is_blank(byte: u8) -> bool
     ensures { result ≡ is_blank byte }
 {
     byte == b' ' || byte == b'\t'

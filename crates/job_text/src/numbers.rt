@@ -1,11 +1,11 @@
 ghost use Rattle.std.specs.Prelude.{◌≡◌, ◌+◌, ◌*◌, ◌^◌, ◌-◌, Some, None, true, nat_lt, if◌then◌else◌};
 ghost use Rattle.std.specs.List.{list_all};
 ghost use Rattle.std.specs.Char.{digit_value};
-ghost use Rattle.job_text.specs.Words.{is_digit, is_numeral};
+ghost use Rattle.job_text.specs.Names.{is_digit, is_numeral};
 ghost use Rattle.job_text.specs.Reading.{value_of, number_of};
 
 use crate::lines::is_some_text;
-use crate::words::is_digit;
+use crate::names::is_digit;
 
 /// The number that decimal digits write, where it is below 2^64.
 pub(crate) fn number(word: &[u8]) -> Option<u64>

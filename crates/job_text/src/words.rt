@@ -1,122 +1,47 @@
-ghost use Rattle.std.specs.Prelude.{◌≡◌};
-ghost use Rattle.std.specs.List.{list_all};
-ghost use Rattle.job_text.specs.Words.{is_name_start, is_digit, is_name_byte, is_keyword, is_among, line_words, joining_words, place_words, level_words, starts_name, is_name, is_file_byte, is_file_name};
+ghost use Rattle.std.specs.Prelude.{◌≡◌, IfOk};
+ghost use Rattle.job_text.specs.Lines.{words};
 
-/// A letter or `_`.
-pub(crate) fn is_name_start(byte: u8) -> bool
-    ensures { result ≡ is_name_start byte }
-{
-    matches!(byte, b'a'..=b'z' | b'A'..=b'Z' | b'_')
+use crate::lines::{is_blank, is_some_text};
+use crate::stop::Stop;
+use std::alloc::Global;
+use std::marker::Model;
+
+/// A word of a line; contracts see its bytes.
+#[derive(Drop)]
+pub(crate) struct Word<'a> {
+    text: &'a [u8],
 }
 
-pub(crate) fn is_digit(byte: u8) -> bool
-    ensures { result ≡ is_digit byte }
-{
-    byte.is_ascii_digit()
+impl<'a> Model for Word<'a> {
+    ghost use Rattle.std.specs.Prelude.{List, ℕ};
+
+    ghost Value = { List ℕ };
+
+    ghost view = { λ w. w.text.now };
 }
 
-/// A letter, a digit or `_`.
-pub(crate) fn is_name_byte(byte: u8) -> bool
-    ensures { result ≡ is_name_byte byte }
-{
-    is_name_start(byte) || is_digit(byte)
-}
+impl<'a> Word<'a> {
+    fn new(text: &'a [u8]) -> Word<'a>
+        ensures { result ≡ text.now }
+    {
+        Word { text }
+    }
 
-fn is_keyword(word: &[u8]) -> bool
-    ensures { result ≡ is_keyword word.now }
-{
-    is_line_word(word) || is_joining_word(word) || is_place_word(word) || is_level_word(word)
-}
-
-/// A word that begins a line.
-fn is_line_word(word: &[u8]) -> bool
-    ensures { result ≡ is_among line_words word.now }
-{
-    word == b"extent".as_slice()
-        || word == b"place".as_slice()
-        || word == b"format".as_slice()
-        || word == b"array".as_slice()
-        || word == b"doany".as_slice()
-        || word == b"print".as_slice()
-        || word == b"repeat".as_slice()
-        || word == b"end".as_slice()
-        || word == b"move".as_slice()
-}
-
-/// A word that joins the parts of a line.
-fn is_joining_word(word: &[u8]) -> bool
-    ensures { result ≡ is_among joining_words word.now }
-{
-    word == b"where".as_slice()
-        || word == b"from".as_slice()
-        || word == b"zero".as_slice()
-        || word == b"by".as_slice()
-        || word == b"on".as_slice()
-        || word == b"to".as_slice()
-}
-
-/// A word of places.
-fn is_place_word(word: &[u8]) -> bool
-    ensures { result ≡ is_among place_words word.now }
-{
-    word == b"block".as_slice()
-        || word == b"cyclic".as_slice()
-        || word == b"listed".as_slice()
-}
-
-/// A word of levels.
-fn is_level_word(word: &[u8]) -> bool
-    ensures { result ≡ is_among level_words word.now }
-{
-    word == b"row".as_slice()
-        || word == b"col".as_slice()
-        || word == b"dense".as_slice()
-        || word == b"packed".as_slice()
-        || word == b"list".as_slice()
-        || word == b"jagged".as_slice()
-        || word == b"diagonal".as_slice()
-        || word == b"permute".as_slice()
-        || word == b"blocks".as_slice()
-        || word == b"hashed".as_slice()
-}
-
-fn are_name_bytes(word: &[u8]) -> bool
-    ensures { result ≡ list_all is_name_byte word.now }
-{
-    word.iter().all(|byte| is_name_byte(*byte))
-}
-
-fn are_file_bytes(word: &[u8]) -> bool
-    ensures { result ≡ list_all is_file_byte word.now }
-{
-    word.iter().all(|byte| is_file_byte(*byte))
-}
-
-fn starts_name(word: &[u8]) -> bool
-    ensures { result ≡ starts_name word.now }
-{
-    match word {
-        [first, ..] => is_name_start(*first),
-        [] => false,
+    pub(crate) fn bytes(&self) -> &'a [u8]
+        ensures { result.now ≡ self.now }
+    {
+        self.text
     }
 }
 
-/// A letter or `_`, then letters, digits and `_`, at most 32 bytes, and no keyword.
-pub(crate) fn is_name(word: &[u8]) -> bool
-    ensures { result ≡ is_name word.now }
+/// The words of a text, which blanks separate.
+pub(crate) fn words<'a>(alloc: Global, text: &'a [u8]) -> Result<Vec<Word<'a>>, Stop>
+    ensures { IfOk result (λ found. found.items ≡ words text.now) }
 {
-    starts_name(word) && word.len() <= 32 && are_name_bytes(word) && !is_keyword(word)
-}
-
-fn is_file_byte(byte: u8) -> bool
-    ensures { result ≡ is_file_byte byte }
-{
-    (b'!'..=b'~').contains(&byte) && byte != b'#'
-}
-
-/// 1 to 255 bytes from `!` to `~`, without `#`.
-pub(crate) fn is_file_name(word: &[u8]) -> bool
-    ensures { result ≡ is_file_name word.now }
-{
-    1 <= word.len() && word.len() <= 255 && are_file_bytes(word)
+    let words = text
+        .split(|byte| is_blank(*byte))
+        .filter(|word| is_some_text(word))
+        .map(|word| Word::new(word))
+        .collect(alloc)?;
+    Ok(words)
 }

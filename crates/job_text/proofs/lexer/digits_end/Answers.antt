@@ -3,7 +3,7 @@ use Rattle.std.proofs.lemmas.Iterator.{YieldsList-from_slice}
 use Rattle.std.proofs.lemmas.Iterator.Search.{position_from_yields_List}
 use Rattle.std.proofs.lemmas.List.Sums.{prefix_len-le-length}
 use Rattle.std.specs.List.{position_or_len}
-use Rattle.job_text.specs.Words.{is_digit}
+use Rattle.job_text.specs.Names.{is_digit}
 use Rattle.job_text.proofs.PlaceLemmas.{place_or_end}
 use Rattle.job_text.proofs.lexer.digits_end.Goals as goal
 
