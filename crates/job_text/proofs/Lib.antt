@@ -8,3 +8,4 @@ pub mod SumLemmas
 pub mod ExpressionLemmas
 pub mod NestLemmas
 pub mod FormLemmas
+pub mod OffsetLemmas

@@ -4,12 +4,15 @@
 #![tactic(auto)]
 
 mod expressions;
+mod forms;
+mod levels;
 mod lexer;
 mod lines;
 mod marks;
 mod names;
 mod nests;
 mod numbers;
+mod offsets;
 mod stop;
 mod sums;
 mod tokens;
