@@ -9,3 +9,4 @@ pub mod ExpressionLemmas
 pub mod NestLemmas
 pub mod FormLemmas
 pub mod OffsetLemmas
+pub mod WordLemmas

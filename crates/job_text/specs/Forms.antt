@@ -1,6 +1,6 @@
 -- The forms of a job's lines.
 use Rattle.std.specs.Prelude.{◌≡◌, ◌≢◌, ◌⊎◌, ℕ, ℤ, pos, ◌<ℤ◌, true, Option, Some, None, List, [], ◌∷◌, ◌++◌, codes}
-use Rattle.std.specs.List.{AllZip, AllPairs}
+use Rattle.std.specs.List.{AllZip}
 use Rattle.std.proofs.Common.{neg_ℤ}
 use Rattle.bern_base.specs.declared.axes.Axis.{Axis}
 use Rattle.bern_base.specs.declared.axes.Axis.TheVariants as axis
@@ -47,10 +47,16 @@ AreTwo outer first second words = (a b : List ℕ) × (words ≡ a ∷ first ∷
 abbrev pub IsOffset : ℤ → List ℕ → Type 0
 IsOffset offset word = ((n : ℕ) × IsNumber n word × (offset ≡ pos n)) ⊎ ((n : ℕ) × (digits : List ℕ) × (word ≡ 45 ∷ digits) × IsNumber n digits × (offset ≡ neg_ℤ (pos n)))
 
--- one offset or more, each above the one before it
+-- each above the one before it
+abbrev pub Rise : List ℤ → Type 0
+Rise [] = Unit {0}
+Rise (only ∷ []) = Unit {0}
+Rise (first ∷ second ∷ offsets) = (first <ℤ second) × Rise (second ∷ offsets)
+
+-- one offset or more, rising
 pub record AreOffsets (offsets : List ℤ) (words : List (List ℕ)) : Type 0 where
   pub spelled : AllZip IsOffset offsets words
-  pub rising : AllPairs ◌<ℤ◌ offsets
+  pub rising : Rise offsets
   pub some : offsets ≢ []
 
 abbrev pub AreLevels : RawShape → List (List ℕ) → Type 0
