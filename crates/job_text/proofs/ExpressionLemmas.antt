@@ -1,16 +1,16 @@
 -- Expressions: what is read is spelled so, and what is spelled so is read.
-use Rattle.std.proofs.Common.{◌≡◌, ◌≢◌, ℕ, zero, suc, ◌+◌, ◌<◌, ◌≤◌, Bool, true, false, Option, Some, None, option_map, List, [], ◌∷◌, ◌++◌, length, length-append, append_assoc, append-nil, refl, sym, ap, subst, ◌∙◌, arith}
+use Rattle.std.proofs.Common.{◌≡◌, ◌≢◌, ℕ, zero, suc, ◌<◌, ◌≤◌, Bool, Some, None, option_map, List, [], ◌∷◌, ◌++◌, length, length-append, append_assoc, refl, sym, ap, subst, ◌∙◌, arith}
 use Rattle.std.specs.Prelude.{option_and_then}
 use Rattle.std.proofs.lemmas.Option.{some_pair_parts}
 use Rattle.bern_base.specs.declared.raw.RawExpr.{RawExpr, out-RawExpr, roll-RawExpr, out-roll-RawExpr, roll-out-RawExpr}
-use Rattle.bern_base.specs.declared.raw.RawProduct.{RawProduct, out-RawProduct, roll-RawProduct}
+use Rattle.bern_base.specs.declared.raw.RawProduct.{RawProduct, roll-RawProduct}
 use Rattle.bern_base.specs.declared.raw.RawFactor.{RawFactor}
 use Rattle.bern_base.specs.declared.raw.RawFactor.TheVariants as factor
 use Rattle.job_text.specs.declared.tokens.Token.{Token}
-use Rattle.job_text.specs.declared.tokens.Token.TheVariants.{Name, Num, Mark}
+use Rattle.job_text.specs.declared.tokens.Token.TheVariants.{Num, Mark}
 use Rattle.job_text.specs.declared.tokens.Mark.TheVariants as m
-use Rattle.job_text.specs.Grammar.{Spread, Led, sign, with_sign, IsRef, IsFactor, IsProduct, IsExpr, star, product_sign}
-use Rattle.job_text.specs.NestReading.{Reads, list_at, sign_at, star_at, first_sign, ref_at, unparen_at, as_read, factor_at, starred_at, factors_at, product_at, products_at, expr_at}
+use Rattle.job_text.specs.Grammar.{Spread, Led, sign, with_sign, IsFactor, IsProduct, IsExpr, star, product_sign}
+use Rattle.job_text.specs.NestReading.{Reads, sign_at, star_at, first_sign, ref_at, unparen_at, as_read, factor_at, starred_at, factors_at, product_at, products_at, expr_at}
 use Rattle.job_text.proofs.TokenLemmas.{mapped-some}
 use Rattle.job_text.proofs.ListLemmas.{sound_list, complete_list, spread_few, spread_some}
 use Rattle.job_text.proofs.SumLemmas.{bound-some, sound_ref, complete_ref, Stops, NoStar, Stops-star, Stops-sign, sound_signed, complete_signed, joins_sign, joined_sign, sign_no_star}
@@ -39,7 +39,7 @@ module _ (inner : List Token → Reads RawExpr) (Inner : RawExpr → List Token 
     sound_unparen mid (Mark m.Unparen ∷ after) rest e x are is =
         let same = some_pair_parts (factor.Group e) x after rest is in
         let whole : Mark m.Paren ∷ (mid ++ Mark m.Unparen ∷ after) ≡ (Mark m.Paren ∷ mid ++ Mark m.Unparen ∷ []) ++ rest =
-            ap (λ t. Mark m.Paren ∷ t) (sym (append_assoc mid (Mark m.Unparen ∷ []) after)) ∙ ap (λ t. (Mark m.Paren ∷ mid ++ Mark m.Unparen ∷ []) ++ t) same.1 in
+        ap (λ t. Mark m.Paren ∷ t) (sym (append_assoc mid (Mark m.Unparen ∷ []) after)) ∙ ap (λ t. (Mark m.Paren ∷ mid ++ Mark m.Unparen ∷ []) ++ t) same.1 in
         subst (ReadsFactor (Mark m.Paren ∷ (mid ++ Mark m.Unparen ∷ after)) rest) same.0 (Mark m.Paren ∷ mid ++ Mark m.Unparen ∷ [], whole, (mid, refl, are))
     sound_unparen mid after rest e x are is = absurd cc
 
@@ -89,7 +89,7 @@ module _ (inner : List Token → Reads RawExpr) (Inner : RawExpr → List Token 
         let few = spread_few (IsFactor Inner) star_mark led_state x.factors (Mark m.Star ∷ front) is in
         let size = length-append front rest in
         let read = complete_list (IsFactor Inner) star_mark led_state (starred_at inner) star_at (λ _. Unit {0}) bound (λ s f r i e it _ b. complete_factor f r i it b) (λ _ _. tt) (λ _ _. refl)
-            x.factors n tt front rest (omega arith) is tt (NoStar-join rest free) below in
+        x.factors n tt front rest (omega arith) is tt (NoStar-join rest free) below in
         ap (option_map (λ p. (roll-RawProduct (record { minus = minus; factors = p.0 }), p.1))) read ∙ ap (λ b. Some (record { minus = b; factors = x.factors }, rest)) (sym led)
 
   factor_some : (x : RawFactor) (tokens : List Token) → IsFactor Inner x tokens → tokens ≢ []
@@ -111,7 +111,7 @@ sound_expr n (suc levels) tokens rest x is =
     let read = mapped-some (λ p. (roll-RawExpr (record { sums = p.0 }), p.1)) (products_at n levels first.0 first.1) (x, rest) is in
     let same = some_pair_parts (roll-RawExpr (record { sums = read.0.0 })) x read.0.1 rest (ap Some read.2) in
     let found = sound_list (IsProduct (IsExpr levels)) sign (λ p. p.minus) (product_at (expr_at n levels) n) sign_at
-        (λ s ts r p e. sound_product (expr_at n levels) (IsExpr levels) (sound_expr n levels) n s ts r p e) joins_sign n first.0 first.1 rest read.0.0 (read.1 ∙ ap (λ r. Some (read.0.0, r)) same.1) in
+    (λ s ts r p e. sound_product (expr_at n levels) (IsExpr levels) (sound_expr n levels) n s ts r p e) joins_sign n first.0 first.1 rest read.0.0 (read.1 ∙ ap (λ r. Some (read.0.0, r)) same.1) in
     let all = sound_signed (IsProduct (IsExpr levels)) (λ p. p.minus) read.0.0 rest tokens found in
     subst (ReadsExpr (suc levels) tokens rest) same.0 (all.0, all.1, subst (λ e. Spread (Led product_sign (IsProduct (IsExpr levels))) e.sums (with_sign all.0)) (sym (out-roll-RawExpr (record { sums = read.0.0 }))) all.2)
 
@@ -122,10 +122,10 @@ complete_expr bound n (suc levels) front rest x fuel is stops below =
     let xs = (out-RawExpr x).sums in
     let inner = λ (f r : List Token) (e : RawExpr) (i : IsExpr levels e f) (s : Stops r) (b : length (f ++ r) < bound). complete_expr bound n levels f r e fuel i s b in
     let read = complete_signed (IsProduct (IsExpr levels)) (λ p. p.minus) (product_some (expr_at n levels) (IsExpr levels)) (products_at n levels) xs front rest
-        (λ s tail shorter spread. complete_list (IsProduct (IsExpr levels)) sign (λ p. p.minus) (product_at (expr_at n levels) n) sign_at NoStar bound
-            (λ b f r p led it free small. complete_product (expr_at n levels) (IsExpr levels) bound inner n b f r p fuel led it free small) sign_no_star joined_sign
-            xs n s tail rest (few s tail spread shorter) spread (Stops-star rest stops) (Stops-sign rest stops) (omega arith))
-        is in
+    (λ s tail shorter spread. complete_list (IsProduct (IsExpr levels)) sign (λ p. p.minus) (product_at (expr_at n levels) n) sign_at NoStar bound
+    (λ b f r p led it free small. complete_product (expr_at n levels) (IsExpr levels) bound inner n b f r p fuel led it free small) sign_no_star joined_sign
+    xs n s tail rest (few s tail spread shorter) spread (Stops-star rest stops) (Stops-sign rest stops) (omega arith))
+    is in
     ap (option_map (λ p. (roll-RawExpr (record { sums = p.0 }), p.1))) read ∙ ap (λ e. Some (e, rest)) (roll-out-RawExpr x)
   where
     few : (s : Bool) (tail : List Token) → Spread (Led product_sign (IsProduct (IsExpr levels))) (out-RawExpr x).sums (sign s ∷ tail) → length (tail ++ rest) ≤ length (front ++ rest) → length (out-RawExpr x).sums ≤ n

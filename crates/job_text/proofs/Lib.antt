@@ -10,3 +10,5 @@ pub mod NestLemmas
 pub mod FormLemmas
 pub mod OffsetLemmas
 pub mod WordLemmas
+pub mod LevelLemmas
+pub mod JobLemmas

@@ -1,5 +1,5 @@
 -- Lists of things that a token leads: the steps of a reader; what is read is spelled so, and what is spelled so is read.
-use Rattle.std.proofs.Common.{◌≡◌, ◌≢◌, ◌⊎◌, ℕ, zero, suc, ◌+◌, ◌<◌, ◌≤◌, Option, Some, None, List, [], ◌∷◌, ◌++◌, length, length-append, append_assoc, append-nil, refl, sym, ap, subst, ◌∙◌, arith, inl, inr, ⊎_elim}
+use Rattle.std.proofs.Common.{◌≡◌, ◌≢◌, ◌⊎◌, ℕ, zero, suc, ◌<◌, ◌≤◌, Some, None, List, [], ◌∷◌, ◌++◌, length, length-append, append_assoc, append-nil, refl, sym, ap, subst, ◌∙◌, arith, inl, inr, ⊎_elim}
 use Rattle.std.proofs.lemmas.Option.{some_pair_parts}
 use Rattle.job_text.specs.declared.tokens.Token.{Token}
 use Rattle.job_text.specs.NestReading.{Reads, with_front, list_at, goes_on, carried}
@@ -106,9 +106,9 @@ module _ {A S : Type 0} (Is : A → List Token → Type 0) (mark : S → Token) 
           ⊎_elim
           (λ last. (head.1.0, head.1.1 ∙ ap (λ r. head.1.0 ++ r) last.2, subst (λ l. Spread (Led lead Is) l (mark s ∷ head.1.0)) (sym last.1) (mark s ∷ head.1.0, [], sym (append-nil _), led, refl)))
           (λ more.
-              let tail = sound_list n more.0 more.1 rest more.2 more.4 in
-              let mid : first.1 ≡ (mark more.0 ∷ tail.0) ++ rest = joins first.1 more.1 more.0 more.3 ∙ ap (λ r. mark more.0 ∷ r) tail.1 in
-              (head.1.0 ++ mark more.0 ∷ tail.0, whole s ts first.1 rest head.1.0 (mark more.0 ∷ tail.0) head.1.1 mid, subst (λ l. Spread (Led lead Is) l (mark s ∷ (head.1.0 ++ mark more.0 ∷ tail.0))) (sym more.5) (mark s ∷ head.1.0, mark more.0 ∷ tail.0, refl, led, tail.2)))
+          let tail = sound_list n more.0 more.1 rest more.2 more.4 in
+          let mid : first.1 ≡ (mark more.0 ∷ tail.0) ++ rest = joins first.1 more.1 more.0 more.3 ∙ ap (λ r. mark more.0 ∷ r) tail.1 in
+          (head.1.0 ++ mark more.0 ∷ tail.0, whole s ts first.1 rest head.1.0 (mark more.0 ∷ tail.0) head.1.1 mid, subst (λ l. Spread (Led lead Is) l (mark s ∷ (head.1.0 ++ mark more.0 ∷ tail.0))) (sym more.5) (mark s ∷ head.1.0, mark more.0 ∷ tail.0, refl, led, tail.2)))
           (carried-some one join (list_at one join n) first.0 first.1 (join first.1) xs rest first.3)
 
     module _ (Goes : List Token → Type 0) (bound : ℕ)
@@ -133,8 +133,8 @@ module _ {A S : Type 0} (Is : A → List Token → Type 0) (mark : S → Token) 
           let all : front ++ rest ≡ is.3.0 ++ (lead y ∷ next.0 ++ rest) = ap (λ f. f ++ rest) parts ∙ append_assoc is.3.0 (lead y ∷ next.0) rest in
           let size = ap length all ∙ length-append is.3.0 (lead y ∷ next.0 ++ rest) in
           let first : one s (front ++ rest) ≡ Some (x, lead y ∷ next.0 ++ rest) =
-              subst (λ t. one s t ≡ Some (x, lead y ∷ next.0 ++ rest)) (sym all)
-              (complete s is.3.0 (lead y ∷ next.0 ++ rest) x led is.3.2 (goes (state y) (next.0 ++ rest)) (rw (sym all) below)) in
+          subst (λ t. one s t ≡ Some (x, lead y ∷ next.0 ++ rest)) (sym all)
+          (complete s is.3.0 (lead y ∷ next.0 ++ rest) x led is.3.2 (goes (state y) (next.0 ++ rest)) (rw (sym all) below)) in
           let later = complete_list (y ∷ ys) n (state y) next.0 rest (omega arith) (subst (Spread (Led lead Is) (y ∷ ys)) next.1 is.4) end last (omega arith) in
           list_on one join n s (state y) (front ++ rest) (lead y ∷ next.0 ++ rest) (next.0 ++ rest) x first (joined (state y) (next.0 ++ rest)) ∙ ap (with_front (x ∷ [])) later
 

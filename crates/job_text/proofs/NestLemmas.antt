@@ -1,5 +1,5 @@
 -- Nests: what is read is spelled so, and what is spelled so is read.
-use Rattle.std.proofs.Common.{◌≡◌, ◌≢◌, ℕ, zero, suc, ◌+◌, ◌<◌, ◌≤◌, Bool, true, false, Option, Some, None, option_map, List, [], ◌∷◌, ◌++◌, length, length-append, append_assoc, append-nil, refl, sym, ap, subst, ◌∙◌, arith}
+use Rattle.std.proofs.Common.{◌≡◌, ◌≢◌, ℕ, suc, ◌<◌, ◌≤◌, Bool, true, false, Some, None, option_map, List, [], ◌∷◌, ◌++◌, length, length-append, append_assoc, append-nil, refl, sym, ap, subst, ◌∙◌, arith}
 use Rattle.std.specs.Prelude.{option_and_then}
 use Rattle.std.proofs.lemmas.Option.{some_pair_parts, same_Some}
 use Rattle.bern_base.specs.declared.raw.RawSum.{RawSum}
@@ -11,10 +11,10 @@ use Rattle.bern_base.specs.declared.raw.Rel.{Rel}
 use Rattle.bern_base.specs.declared.raw.Rel.TheVariants as rel
 use Rattle.bern_base.specs.declared.raw.RawExpr.{RawExpr}
 use Rattle.job_text.specs.declared.tokens.Token.{Token}
-use Rattle.job_text.specs.declared.tokens.Token.TheVariants.{Name, Num, Mark}
+use Rattle.job_text.specs.declared.tokens.Token.TheVariants.{Name, Mark}
 use Rattle.job_text.specs.declared.tokens.Mark.TheVariants as m
 use Rattle.job_text.specs.Grammar.{Spread, Led, IsSum, IsRef, IsExpr, IsSpan, var_name, comparison, IsGuard, comma, AreGuards, assignment, levels, IsNest}
-use Rattle.job_text.specs.NestReading.{Reads, list_at, sum_at, ref_at, expr_at, as_var, to_at, span_at, name_at, vars_from, vars_at, rel_at, as_guard, right_at, compared_at, guard_at, comma_at, guards_from, guards_at, ended_at, whole_at, assign_at, as_nest, body_at, assigned_at, statement_at, guarded_at, nest_at}
+use Rattle.job_text.specs.NestReading.{sum_at, ref_at, expr_at, as_var, to_at, span_at, name_at, vars_at, rel_at, as_guard, right_at, compared_at, guard_at, comma_at, guards_at, ended_at, whole_at, assign_at, as_nest, body_at, assigned_at, statement_at, guarded_at, nest_at}
 use Rattle.job_text.proofs.TokenLemmas.{mapped-some}
 use Rattle.job_text.proofs.ListLemmas.{sound_list, complete_list, spread_few, spread_begins}
 use Rattle.job_text.proofs.SumLemmas.{bound-some, sound_sum, complete_sum, sound_ref, complete_ref, Stops}
@@ -69,7 +69,7 @@ complete_vars n front rest (x ∷ xs) some is stops last below =
     let size = length-append front rest in
     ap (λ f. vars_at n (f ++ rest)) begins.1
     ∙ complete_list IsSpan Name (λ v. v.name) span_at name_at Stops (suc (length (begins.0 ++ rest))) (λ s f r v led it end _. complete_span s f r v led it end) (λ _ _. tt) (λ _ _. refl)
-      (x ∷ xs) n x.name begins.0 rest (omega arith) (subst (AreVars (x ∷ xs)) begins.1 is) stops last (omega arith)
+    (x ∷ xs) n x.name begins.0 rest (omega arith) (subst (AreVars (x ∷ xs)) begins.1 is) stops last (omega arith)
 
 joins_rel : (tokens rest : List Token) (r : Rel) → rel_at tokens ≡ Some (r, rest) → tokens ≡ comparison r ∷ rest
 joins_rel (Mark m.Lt ∷ tokens) rest r is = let same = some_pair_parts rel.Lt r tokens rest is in ap (λ t. Mark m.Lt ∷ t) same.1 ∙ ap (λ s. comparison s ∷ rest) same.0
@@ -151,7 +151,7 @@ complete_guards n front rest (g ∷ gs) is fuel =
     let size = ap length is.1 in
     ap (λ f. guards_at n (f ++ Mark m.Colon ∷ rest)) is.1
     ∙ complete_list IsGuard comma_mark led_guard guard_at comma_at Stops (suc (length (is.0 ++ Mark m.Colon ∷ rest))) (λ s f r x led it end _. complete_guard s f r x it end) (λ _ _. tt) (λ _ _. refl)
-      (g ∷ gs) n tt is.0 (Mark m.Colon ∷ rest) (omega arith) is.2 tt refl (omega arith)
+    (g ∷ gs) n tt is.0 (Mark m.Colon ∷ rest) (omega arith) is.2 tt refl (omega arith)
 
 -- what follows the variables goes on with none of them
 after_vars : (front rest : List Token) (gs : List RawGuard) → AreGuards gs front → Stops (front ++ Mark m.Colon ∷ rest) × (name_at (front ++ Mark m.Colon ∷ rest) ≡ None)

@@ -1,5 +1,5 @@
 -- Items, sums and references: what is read is spelled so, and what is spelled so is read.
-use Rattle.std.proofs.Common.{◌≡◌, ◌≢◌, ◌⊎◌, ℕ, zero, suc, ◌+◌, ◌<◌, ◌≤◌, ◌^◌, Bool, true, false, cond, ltb, Option, Some, None, option_map, List, [], ◌∷◌, ◌++◌, length, length-append, append_assoc, append-nil, refl, sym, ap, subst, ◌∙◌, arith, inl, inr, ⊎_elim}
+use Rattle.std.proofs.Common.{◌≡◌, ◌≢◌, ℕ, suc, ◌<◌, ◌≤◌, ◌^◌, Bool, true, false, ltb, Option, Some, None, option_map, List, [], ◌∷◌, ◌++◌, length, append_assoc, refl, sym, ap, subst, ◌∙◌, arith, inl, inr}
 use Rattle.std.specs.Prelude.{option_and_then}
 use Rattle.std.proofs.lemmas.Option.{some_pair_parts, cond_some}
 use Rattle.std.proofs.lemmas.Bool.{ltb-true, lt-ltb, cond-true}
@@ -10,7 +10,7 @@ use Rattle.job_text.specs.declared.tokens.Token.{Token}
 use Rattle.job_text.specs.declared.tokens.Token.TheVariants.{Name, Num, Mark}
 use Rattle.job_text.specs.declared.tokens.Mark.TheVariants as m
 use Rattle.job_text.specs.Grammar.{Spread, Led, sign, with_sign, IsTimes, IsItem, item_sign, IsSum, AreSubs, IsRef}
-use Rattle.job_text.specs.NestReading.{Reads, list_at, sign_at, first_sign, limited_item, item_at, items_at, as_sum, sum_at, second_at, subs_at, closed_at, ref_at}
+use Rattle.job_text.specs.NestReading.{Reads, sign_at, first_sign, limited_item, item_at, items_at, as_sum, sum_at, second_at, subs_at, closed_at, ref_at}
 use Rattle.job_text.proofs.TokenLemmas.{mapped-some}
 use Rattle.job_text.proofs.ListLemmas.{sound_list, complete_list, list_few, spread_some}
 
@@ -146,9 +146,9 @@ pub complete_sum : (front rest : List Token) (x : RawSum) → IsSum x front → 
 unfolding sum_at
 complete_sum front rest x is stops =
     let read = complete_signed IsItem (λ i. i.minus) (λ i ts e. times_some i.number i.name ts e) items_at x.items front rest
-        (λ s tail below spread. complete_list IsItem sign (λ i. i.minus) item_at sign_at NoStar (suc (length (front ++ rest)))
-            (λ b f r i e it free _. complete_item b f r i e it free) sign_no_star joined_sign x.items 8 s tail rest is.at_most spread (Stops-star rest stops) (Stops-sign rest stops) (omega arith))
-        is.items in
+    (λ s tail below spread. complete_list IsItem sign (λ i. i.minus) item_at sign_at NoStar (suc (length (front ++ rest)))
+    (λ b f r i e it free _. complete_item b f r i e it free) sign_no_star joined_sign x.items 8 s tail rest is.at_most spread (Stops-star rest stops) (Stops-sign rest stops) (omega arith))
+    is.items in
     ap (option_map as_sum) read
 
 sum_some : (x : RawSum) (tokens : List Token) → IsSum x tokens → tokens ≢ []
@@ -193,7 +193,7 @@ sound_closed : (name : List ℕ) (subs : List RawSum) (front after rest : List T
 sound_closed name subs front (Mark m.Close ∷ after) rest x are is =
     let same = some_pair_parts (record { name = name; subs = subs }) x after rest is in
     let whole : Name name ∷ Mark m.Open ∷ (front ++ Mark m.Close ∷ after) ≡ (Name name ∷ Mark m.Open ∷ front ++ Mark m.Close ∷ []) ++ rest =
-        ap (λ t. Name name ∷ Mark m.Open ∷ t) (sym (append_assoc front (Mark m.Close ∷ []) after)) ∙ ap (λ t. (Name name ∷ Mark m.Open ∷ front ++ Mark m.Close ∷ []) ++ t) same.1 in
+    ap (λ t. Name name ∷ Mark m.Open ∷ t) (sym (append_assoc front (Mark m.Close ∷ []) after)) ∙ ap (λ t. (Name name ∷ Mark m.Open ∷ front ++ Mark m.Close ∷ []) ++ t) same.1 in
     subst (ReadsRef (Name name ∷ Mark m.Open ∷ (front ++ Mark m.Close ∷ after)) rest) same.0 (Name name ∷ Mark m.Open ∷ front ++ Mark m.Close ∷ [], whole, (front, refl, are))
 sound_closed name subs front after rest x are is = absurd cc
 
@@ -209,5 +209,5 @@ pub complete_ref : (front rest : List Token) (x : RawRef) → IsRef x front → 
 unfolding ref_at
 complete_ref front rest x is =
     let whole : front ++ rest ≡ Name x.name ∷ Mark m.Open ∷ (is.0 ++ Mark m.Close ∷ rest) =
-        ap (λ f. f ++ rest) is.1 ∙ ap (λ t. Name x.name ∷ Mark m.Open ∷ t) (append_assoc is.0 (Mark m.Close ∷ []) rest) in
+    ap (λ f. f ++ rest) is.1 ∙ ap (λ t. Name x.name ∷ Mark m.Open ∷ t) (append_assoc is.0 (Mark m.Close ∷ []) rest) in
     ap ref_at whole ∙ ap (option_and_then (λ p. closed_at (record { name = x.name; subs = p.0 }) p.1)) (complete_subs is.0 rest x.subs is.2)

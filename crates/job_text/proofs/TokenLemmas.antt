@@ -1,5 +1,5 @@
 -- How a text breaks into tokens.
-use Rattle.std.proofs.Common.{◌≡◌, ◌≢◌, ℕ, zero, suc, ◌+◌, ◌-◌, ◌<◌, ◌≤◌, Bool, true, false, cond, Option, Some, None, option_map, List, [], ◌∷◌, ◌++◌, length, take, drop, length-drop, append_assoc, refl, sym, ap, subst, ◌∙◌, arith, ⊎_elim}
+use Rattle.std.proofs.Common.{◌≡◌, ◌≢◌, ℕ, zero, suc, ◌<◌, ◌≤◌, Option, Some, None, option_map, List, [], ◌∷◌, ◌++◌, length, take, drop, length-drop, append_assoc, refl, sym, ap, subst, ◌∙◌, arith, ⊎_elim}
 use Rattle.std.proofs.lemmas.Option.{some_pair_parts}
 use Rattle.std.proofs.lemmas.Bool.{cases_Bool, cond-true, cond-false}
 use Rattle.job_text.specs.declared.tokens.Token.{Token}
@@ -62,9 +62,9 @@ first_token-shorter [] rest token is = absurd cc
 first_token-shorter (byte ∷ text) rest token is = ⊎_elim
     (λ digit. number_at-shorter (byte ∷ text) rest token (sym (cond-true _ _ _ digit) ∙ is))
     (λ other. ⊎_elim
-        (λ letter. word_at-shorter (byte ∷ text) rest token (sym (cond-true _ _ _ letter) ∙ sym (cond-false _ _ _ other) ∙ is))
-        (λ mark. let below = mark_at-shorter byte text rest token (sym (cond-false _ _ _ mark) ∙ sym (cond-false _ _ _ other) ∙ is) in omega arith)
-        (cases_Bool (is_name_start byte)))
+    (λ letter. word_at-shorter (byte ∷ text) rest token (sym (cond-true _ _ _ letter) ∙ sym (cond-false _ _ _ other) ∙ is))
+    (λ mark. let below = mark_at-shorter byte text rest token (sym (cond-false _ _ _ mark) ∙ sym (cond-false _ _ _ other) ∙ is) in omega arith)
+    (cases_Bool (is_name_start byte)))
     (cases_Bool (is_digit byte))
 
 -- a text has one list of tokens

@@ -1,21 +1,19 @@
 -- Words: names, numbers, axes and levels; what is read is spelled so, and what is spelled so is read.
-use Rattle.std.proofs.Common.{◌≡◌, ◌≢◌, ◌⊎◌, ℕ, zero, suc, ◌+◌, ◌<◌, ◌≤◌, ◌^◌, ℤ, pos, neg_ℤ, Bool, true, false, cond, ltb, eqb, Option, Some, None, option_map, List, [], ◌∷◌, ◌++◌, ◌&&◌, not, length, length-append, take, drop, refl, sym, ap, subst, ◌∙◌, arith, inl, inr, ⊎_elim}
-use Rattle.std.specs.Prelude.{option_and_then, codes, nat_lt, ◌<ℤ◌}
-use Rattle.std.specs.List.{AllZip, list_all, position_or_len, before_first, after_first}
+use Rattle.std.proofs.Common.{◌≡◌, ◌⊎◌, ℕ, ◌<◌, ◌^◌, Bool, true, false, cond, Option, Some, None, option_map, List, [], ◌∷◌, ◌&&◌, refl, sym, ap, subst, ◌∙◌, inl, inr, ⊎_elim}
+use Rattle.std.specs.Prelude.{codes}
 use Rattle.std.specs.Str.{bytes_eq}
 use Rattle.std.specs.Str.Parse.{digits_value}
 use Rattle.std.proofs.lemmas.Slice.Eq.{bytes_eq-Decides}
-use Rattle.std.proofs.lemmas.Option.{some_pair_parts, same_Some, cond_some}
-use Rattle.std.proofs.lemmas.Bool.{cases_Bool, cond-true, cond-false, lt-ltb, le-ltb, ltb-true, eqb-true, eq-eqb, false≢true}
+use Rattle.std.proofs.lemmas.Option.{same_Some, cond_some}
+use Rattle.std.proofs.lemmas.Bool.{cases_Bool, cond-true, cond-false, false≢true}
 use Rattle.bern_base.specs.declared.axes.Axis.{Axis}
 use Rattle.bern_base.specs.declared.axes.Axis.TheVariants as axis
 use Rattle.bern_base.specs.declared.raw.RawShape.{RawShape}
 use Rattle.bern_base.specs.declared.raw.RawShape.TheVariants as shape
-use Rattle.job_text.specs.Lines.{is_some_text}
-use Rattle.job_text.specs.Names.{is_name, is_file_name, IsNumber, is_numeral, is_digit, is_name_byte, starts_name}
+use Rattle.job_text.specs.Names.{is_name, is_file_name, IsNumber, is_numeral}
 use Rattle.job_text.specs.Reading.{value_of, number_of}
-use Rattle.job_text.specs.Forms.{IsName, IsFileName, IsAxis, IsInnerAxis, AreTwo, IsOffset, Rise, AreOffsets, AreLevels, AreExtents, IsSource}
-use Rattle.job_text.specs.WordReading.{name_of, file_of, axis_of, is_inner, behind_dense, behind_packed, two_of, one_of, list_of, inner_of, axes_of, are_permuted, permute_of, jagged_of, below_zero, offset_of, is_above, risen, next_offset, onto, offsets_from, offsets_of, levels_of, is_comma, comma_place, only_extent, two_extents, both_of, extents_of, source_of}
+use Rattle.job_text.specs.Forms.{IsName, IsFileName, IsAxis, IsInnerAxis, AreLevels}
+use Rattle.job_text.specs.WordReading.{name_of, file_of, axis_of, is_inner, behind_dense, behind_packed, two_of, one_of, inner_of, axes_of, are_permuted, permute_of, jagged_of}
 use Rattle.job_text.proofs.NumberLemmas.{limited-fits, limited-some}
 use Rattle.job_text.proofs.TokenLemmas.{mapped-some}
 use Rattle.job_text.proofs.SumLemmas.{bound-some}
@@ -49,7 +47,7 @@ complete_file file is = cond-true _ _ _ is
 pub sound_number : (word : List ℕ) (n : ℕ) → number_of word ≡ Some n → IsNumber n word
 sound_number word n is = ⊎_elim
     (λ digits. let value = limited-some (2 ^ 64) (digits_value 10 word) n (sym (cond-true _ (value_of word) None digits) ∙ is) in
-        record { digits = digits; value = value.0; fits = rw value.0 value.1 })
+    record { digits = digits; value = value.0; fits = rw value.0 value.1 })
     (λ other. absurd (let e = cond-false _ (value_of word) None other in cc))
     (cases_Bool (is_numeral word))
 
@@ -85,16 +83,16 @@ both_true false b is = absurd (false≢true is)
 sound_two : (outer : Axis) (a first b second : List ℕ) (s : RawShape) → IsAxis outer a → IsInnerAxis outer b → two_of outer first second ≡ Some s → AreLevels s (a ∷ first ∷ codes ">" ∷ b ∷ second ∷ [])
 sound_two outer a first b second s is_outer is_inside is = ⊎_elim
     (λ dense. ⊎_elim
-        (λ last. subst (λ x. AreLevels x (a ∷ first ∷ codes ">" ∷ b ∷ second ∷ [])) (same_Some (shape.DenseDense outer) s last.1)
-            (a, b, spelled (codes "dense") (codes "dense") dense.0 last.0, is_outer, is_inside))
-        (λ rest. let last = only_word second (codes "packed") (Some (shape.DensePacked outer)) s rest in
-            subst (λ x. AreLevels x (a ∷ first ∷ codes ">" ∷ b ∷ second ∷ [])) (same_Some (shape.DensePacked outer) s last.1)
-            (a, b, spelled (codes "dense") (codes "packed") dense.0 last.0, is_outer, is_inside))
-        (by_word second (codes "dense") (Some (shape.DenseDense outer)) (cond (bytes_eq second (codes "packed")) (Some (shape.DensePacked outer)) None) s dense.1))
+    (λ last. subst (λ x. AreLevels x (a ∷ first ∷ codes ">" ∷ b ∷ second ∷ [])) (same_Some (shape.DenseDense outer) s last.1)
+    (a, b, spelled (codes "dense") (codes "dense") dense.0 last.0, is_outer, is_inside))
+    (λ rest. let last = only_word second (codes "packed") (Some (shape.DensePacked outer)) s rest in
+    subst (λ x. AreLevels x (a ∷ first ∷ codes ">" ∷ b ∷ second ∷ [])) (same_Some (shape.DensePacked outer) s last.1)
+    (a, b, spelled (codes "dense") (codes "packed") dense.0 last.0, is_outer, is_inside))
+    (by_word second (codes "dense") (Some (shape.DenseDense outer)) (cond (bytes_eq second (codes "packed")) (Some (shape.DensePacked outer)) None) s dense.1))
     (λ rest. let packed = only_word first (codes "packed") (behind_packed outer second) s rest in
-        let last = only_word second (codes "packed") (Some (shape.PackedPacked outer)) s packed.1 in
-        subst (λ x. AreLevels x (a ∷ first ∷ codes ">" ∷ b ∷ second ∷ [])) (same_Some (shape.PackedPacked outer) s last.1)
-        (a, b, spelled (codes "packed") (codes "packed") packed.0 last.0, is_outer, is_inside))
+    let last = only_word second (codes "packed") (Some (shape.PackedPacked outer)) s packed.1 in
+    subst (λ x. AreLevels x (a ∷ first ∷ codes ">" ∷ b ∷ second ∷ [])) (same_Some (shape.PackedPacked outer) s last.1)
+    (a, b, spelled (codes "packed") (codes "packed") packed.0 last.0, is_outer, is_inside))
     (by_word first (codes "dense") (behind_dense outer second) (cond (bytes_eq first (codes "packed")) (behind_packed outer second) None) s is)
   where
     spelled : (f g : List ℕ) → first ≡ f → second ≡ g → ◌≡◌ {A = List (List ℕ)} (a ∷ first ∷ codes ">" ∷ b ∷ second ∷ []) (a ∷ f ∷ codes ">" ∷ b ∷ g ∷ [])
@@ -104,16 +102,16 @@ sound_one : (first level : List ℕ) (s : RawShape) → first ≡ codes "row" �
 sound_one first level s row is = ⊎_elim
     (λ dense. subst (λ x. AreLevels x (first ∷ level ∷ [])) (same_Some shape.DenseOne s dense.1) (spelled (codes "dense") dense.0))
     (λ rest. ⊎_elim
-        (λ packed. subst (λ x. AreLevels x (first ∷ level ∷ [])) (same_Some shape.PackedOne s packed.1) (spelled (codes "packed") packed.0))
-        (λ more. let last = only_word level (codes "list") (Some shape.ListOne) s more in
-            subst (λ x. AreLevels x (first ∷ level ∷ [])) (same_Some shape.ListOne s last.1) (spelled (codes "list") last.0))
-        (by_word level (codes "packed") (Some shape.PackedOne) (cond (bytes_eq level (codes "list")) (Some shape.ListOne) None) s rest))
+    (λ packed. subst (λ x. AreLevels x (first ∷ level ∷ [])) (same_Some shape.PackedOne s packed.1) (spelled (codes "packed") packed.0))
+    (λ more. let last = only_word level (codes "list") (Some shape.ListOne) s more in
+    subst (λ x. AreLevels x (first ∷ level ∷ [])) (same_Some shape.ListOne s last.1) (spelled (codes "list") last.0))
+    (by_word level (codes "packed") (Some shape.PackedOne) (cond (bytes_eq level (codes "list")) (Some shape.ListOne) None) s rest))
     (by_word level (codes "dense") (Some shape.DenseOne) (cond (bytes_eq level (codes "packed")) (Some shape.PackedOne) (cond (bytes_eq level (codes "list")) (Some shape.ListOne) None)) s is)
   where
     spelled : (l : List ℕ) → level ≡ l → ◌≡◌ {A = List (List ℕ)} (first ∷ level ∷ []) (codes "row" ∷ l ∷ [])
     spelled l is = ap (λ w. w ∷ level ∷ []) row ∙ ap (λ w. codes "row" ∷ w ∷ []) is
 
-sound_axes : (ws : List (List ℕ)) (s : RawShape) → axes_of ws ≡ Some s → AreLevels s ws
+pub sound_axes : (ws : List (List ℕ)) (s : RawShape) → axes_of ws ≡ Some s → AreLevels s ws
 unfolding axes_of
 sound_axes (first ∷ level ∷ []) s is = let row = only_word first (codes "row") (one_of level) s is in sound_one first level s row.0 row.1
 sound_axes (first ∷ second ∷ level ∷ []) s is =
@@ -130,7 +128,7 @@ sound_axes (outer ∷ first ∷ above ∷ inner ∷ second ∷ []) s is =
     (sound_two read.0 outer first inner second s (sound_axis outer read.0 read.1) (sound_inner inner read.0 parts.1) test.1)
 sound_axes ws s is = absurd cc
 
-sound_permute : (ws : List (List ℕ)) (s : RawShape) → permute_of ws ≡ Some s → AreLevels s (codes "permute" ∷ ws)
+pub sound_permute : (ws : List (List ℕ)) (s : RawShape) → permute_of ws ≡ Some s → AreLevels s (codes "permute" ∷ ws)
 unfolding permute_of
 sound_permute (file ∷ outer ∷ first ∷ above ∷ inner ∷ second ∷ []) s is =
     let test = ⊎_elim (λ yes. let y : (are_permuted outer first above inner second ≡ true) × (option_map shape.Permute (file_of file) ≡ Some s) = (yes, sym (cond-true _ (option_map shape.Permute (file_of file)) None yes) ∙ is) in y) (λ differs. absurd (let e = cond-false _ (option_map shape.Permute (file_of file)) None differs in cc)) (cases_Bool (are_permuted outer first above inner second)) in
@@ -140,16 +138,17 @@ sound_permute (file ∷ outer ∷ first ∷ above ∷ inner ∷ second ∷ []) s
     let t = both_true (bytes_eq outer (codes "row")) (bytes_eq first (codes "dense")) r.0 in
     let read = mapped-some shape.Permute (file_of file) s test.1 in
     let name = sound_file file read.0 read.1 in
-    subst (λ x. AreLevels x (codes "permute" ∷ file ∷ outer ∷ first ∷ above ∷ inner ∷ second ∷ [])) read.2
-    (ap (λ w. codes "permute" ∷ w ∷ outer ∷ first ∷ above ∷ inner ∷ second ∷ []) name.0
-      ∙ ap (λ w. codes "permute" ∷ read.0 ∷ w ∷ first ∷ above ∷ inner ∷ second ∷ []) (same_word outer _ t.0)
-      ∙ ap (λ w. codes "permute" ∷ read.0 ∷ codes "row" ∷ w ∷ above ∷ inner ∷ second ∷ []) (same_word first _ t.1)
-      ∙ ap (λ w. codes "permute" ∷ read.0 ∷ codes "row" ∷ codes "dense" ∷ w ∷ inner ∷ second ∷ []) (same_word above _ r.1)
-      ∙ ap (λ w. codes "permute" ∷ read.0 ∷ codes "row" ∷ codes "dense" ∷ codes ">" ∷ w ∷ second ∷ []) (same_word inner _ q.1)
-      ∙ ap (λ w. codes "permute" ∷ read.0 ∷ codes "row" ∷ codes "dense" ∷ codes ">" ∷ codes "col" ∷ w ∷ []) (same_word second _ p.1),
-    name.1)
+    subst (λ x. AreLevels x (codes "permute" ∷ file ∷ outer ∷ first ∷ above ∷ inner ∷ second ∷ [])) read.2 (
+      ap (λ w. codes "permute" ∷ w ∷ outer ∷ first ∷ above ∷ inner ∷ second ∷ []) name.0
+          ∙ ap (λ w. codes "permute" ∷ read.0 ∷ w ∷ first ∷ above ∷ inner ∷ second ∷ []) (same_word outer _ t.0)
+          ∙ ap (λ w. codes "permute" ∷ read.0 ∷ codes "row" ∷ w ∷ above ∷ inner ∷ second ∷ []) (same_word first _ t.1)
+          ∙ ap (λ w. codes "permute" ∷ read.0 ∷ codes "row" ∷ codes "dense" ∷ w ∷ inner ∷ second ∷ []) (same_word above _ r.1)
+          ∙ ap (λ w. codes "permute" ∷ read.0 ∷ codes "row" ∷ codes "dense" ∷ codes ">" ∷ w ∷ second ∷ []) (same_word inner _ q.1)
+          ∙ ap (λ w. codes "permute" ∷ read.0 ∷ codes "row" ∷ codes "dense" ∷ codes ">" ∷ codes "col" ∷ w ∷ []) (same_word second _ p.1),
+      name.1,
+    )
 sound_permute ws s is = absurd cc
 
-sound_jagged : (ws : List (List ℕ)) (s : RawShape) → jagged_of ws ≡ Some s → AreLevels s (codes "jagged" ∷ ws)
+pub sound_jagged : (ws : List (List ℕ)) (s : RawShape) → jagged_of ws ≡ Some s → AreLevels s (codes "jagged" ∷ ws)
 sound_jagged [] s is = subst (λ x. AreLevels x (codes "jagged" ∷ [])) (same_Some shape.Jagged s is) refl
 sound_jagged (word ∷ ws) s is = absurd cc

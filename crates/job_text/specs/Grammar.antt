@@ -9,7 +9,7 @@ use Rattle.bern_base.specs.declared.raw.RawNest.{RawNest}
 use Rattle.bern_base.specs.declared.raw.Rel.{Rel}
 use Rattle.bern_base.specs.declared.raw.Rel.TheVariants as rel
 use Rattle.bern_base.specs.declared.raw.RawExpr.{RawExpr, out-RawExpr}
-use Rattle.bern_base.specs.declared.raw.RawProduct.{RawProduct, out-RawProduct}
+use Rattle.bern_base.specs.declared.raw.RawProduct.{RawProduct}
 use Rattle.bern_base.specs.declared.raw.RawFactor.{RawFactor}
 use Rattle.bern_base.specs.declared.raw.RawFactor.TheVariants as factor
 use Rattle.job_text.specs.declared.tokens.Token.{Token}

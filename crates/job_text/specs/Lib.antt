@@ -1,5 +1,6 @@
 pub mod Forms
 pub mod Grammar
+pub mod Job
 pub mod Lines
 pub mod Marks
 pub mod Names

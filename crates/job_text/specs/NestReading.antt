@@ -1,5 +1,5 @@
 -- What the readers of nest lines answer: what stands at the front of a list of tokens, and the tokens that are left.
-use Rattle.std.specs.Prelude.{◌≡◌, ℕ, ◌^◌, ◌+◌, Bool, true, false, Option, Some, None, option_map, option_and_then, List, [], ◌∷◌, ◌++◌, length, zero, suc, nat_lt, if◌then◌else◌}
+use Rattle.std.specs.Prelude.{ℕ, ◌^◌, Bool, true, false, Option, Some, None, option_map, option_and_then, List, [], ◌∷◌, ◌++◌, zero, suc, nat_lt, if◌then◌else◌}
 use Rattle.bern_base.specs.declared.raw.RawItem.{RawItem}
 use Rattle.bern_base.specs.declared.raw.RawSum.{RawSum}
 use Rattle.bern_base.specs.declared.raw.RawRef.{RawRef}

@@ -1,5 +1,5 @@
 -- The tokens of a nest line.
-use Rattle.std.specs.Prelude.{◌≡◌, ℕ, Bool, not, Option, Some, None, option_map, List, [], ◌∷◌, take, drop, codes, if◌then◌else◌}
+use Rattle.std.specs.Prelude.{◌≡◌, ℕ, not, Option, Some, None, option_map, List, [], ◌∷◌, take, drop, codes, if◌then◌else◌}
 use Rattle.std.specs.List.{position_or_len}
 use Rattle.std.specs.Str.{bytes_eq}
 use Rattle.job_text.specs.declared.tokens.Token.{Token}

@@ -1,5 +1,5 @@
 -- What the readers of lines other than nests answer, as functions of the words.
-use Rattle.std.specs.Prelude.{◌≡◌, ◌+◌, ◌&&◌, ◌++◌, ℕ, ℤ, pos, Bool, true, false, Option, Some, None, option_map, option_and_then, List, [], ◌∷◌, codes, length, take, drop, nat_lt, ◌==◌, if◌then◌else◌}
+use Rattle.std.specs.Prelude.{◌+◌, ◌&&◌, ◌++◌, ℕ, ℤ, pos, Bool, true, false, Option, Some, None, option_map, option_and_then, List, [], ◌∷◌, codes, length, take, drop, nat_lt, ◌==◌, if◌then◌else◌}
 use Rattle.std.specs.List.{position_or_len}
 use Rattle.std.specs.Str.{bytes_eq}
 use Rattle.std.specs.Int.Signed.{lt_z}

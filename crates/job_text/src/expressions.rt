@@ -11,7 +11,11 @@ use std::alloc::Global;
 /// Products behind their signs, with parentheses at most this many levels deep, itself counted.
 #[cycle(expression)]
 #[tactic(auto, unfolding(crate::specs::NestReading::expr_at))]
-pub(crate) fn expression<'a>(alloc: Global, levels: u32, tokens: &'a [Token]) -> Result<(RawExpr, &'a [Token]), Stop>
+pub(crate) fn expression<'a>(
+    alloc: Global,
+    levels: u32,
+    tokens: &'a [Token],
+) -> Result<(RawExpr, &'a [Token]), Stop>
     ensures value { (n : ℕ) → length tokens.now < n → Gives seen result (expr_at n levels tokens.now) }
     ensures shorter { IfOk result (λ p. length p.1.now < length tokens.now) }
 {
@@ -25,7 +29,12 @@ pub(crate) fn expression<'a>(alloc: Global, levels: u32, tokens: &'a [Token]) ->
 
 /// The products of a sum, the first with this sign.
 #[cycle(expression)]
-fn products<'a>(alloc: Global, levels: u32, minus: bool, tokens: &'a [Token]) -> Result<(Items<RawProduct>, &'a [Token]), Stop>
+fn products<'a>(
+    alloc: Global,
+    levels: u32,
+    minus: bool,
+    tokens: &'a [Token],
+) -> Result<(Items<RawProduct>, &'a [Token]), Stop>
     ensures value { (n : ℕ) → length tokens.now < n → Gives seen result (products_at n levels minus tokens.now) }
     ensures shorter { IfOk result (λ p. length p.1.now < length tokens.now) }
 {
@@ -48,7 +57,12 @@ fn products<'a>(alloc: Global, levels: u32, minus: bool, tokens: &'a [Token]) ->
 /// Factors with stars between them.
 #[cycle(expression)]
 #[tactic(auto, unfolding(crate::specs::NestReading::product_at))]
-fn product<'a>(alloc: Global, levels: u32, minus: bool, tokens: &'a [Token]) -> Result<(RawProduct, &'a [Token]), Stop>
+fn product<'a>(
+    alloc: Global,
+    levels: u32,
+    minus: bool,
+    tokens: &'a [Token],
+) -> Result<(RawProduct, &'a [Token]), Stop>
     ensures value { (n : ℕ) → length tokens.now < n → Gives seen result (product_at (expr_at n levels) n minus tokens.now) }
     ensures shorter { IfOk result (λ p. length p.1.now < length tokens.now) }
 {
@@ -57,7 +71,11 @@ fn product<'a>(alloc: Global, levels: u32, minus: bool, tokens: &'a [Token]) -> 
 }
 
 #[cycle(expression)]
-fn factors<'a>(alloc: Global, levels: u32, tokens: &'a [Token]) -> Result<(Items<RawFactor>, &'a [Token]), Stop>
+fn factors<'a>(
+    alloc: Global,
+    levels: u32,
+    tokens: &'a [Token],
+) -> Result<(Items<RawFactor>, &'a [Token]), Stop>
     ensures value { (n : ℕ) → length tokens.now < n → Gives seen result (factors_at (expr_at n levels) n tokens.now) }
     ensures shorter { IfOk result (λ p. length p.1.now < length tokens.now) }
 {
@@ -76,7 +94,11 @@ fn factors<'a>(alloc: Global, levels: u32, tokens: &'a [Token]) -> Result<(Items
 /// A number, an element of an array, or an expression in parentheses.
 #[cycle(expression)]
 #[tactic(auto, unfolding(crate::specs::NestReading::factor_at))]
-fn factor<'a>(alloc: Global, levels: u32, tokens: &'a [Token]) -> Result<(RawFactor, &'a [Token]), Stop>
+fn factor<'a>(
+    alloc: Global,
+    levels: u32,
+    tokens: &'a [Token],
+) -> Result<(RawFactor, &'a [Token]), Stop>
     ensures value { (n : ℕ) → length tokens.now < n → Gives seen result (factor_at (expr_at n levels) tokens.now) }
     ensures shorter { IfOk result (λ p. length p.1.now < length tokens.now) }
 {

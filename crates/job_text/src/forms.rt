@@ -6,14 +6,14 @@ ghost use Rattle.job_text.specs.Reading.{Gives};
 use crate::levels::levels;
 use crate::names::{is_file_name, is_name};
 use crate::numbers::number;
+use crate::pieces::Piece;
 use crate::stop::Stop;
-use crate::words::Word;
 use bern_base::{Axis, Form, Items, RawKind, Text};
 use std::alloc::Global;
 
 /// The form of a line other than a nest, by its first word. A new form of words is one more case.
 #[tactic(auto, unfolding(crate::specs::WordReading::form_of))]
-pub(crate) fn word_form(alloc: Global, words: &[Word]) -> Result<Form, Stop>
+pub(crate) fn word_form(alloc: Global, words: &[Piece]) -> Result<Form, Stop>
     ensures { Gives (λ form. form) result (form_of words.now) }
 {
     match words {
@@ -39,7 +39,7 @@ pub(crate) fn word_form(alloc: Global, words: &[Word]) -> Result<Form, Stop>
 
 /// `NAME NUM`
 #[tactic(auto, unfolding(crate::specs::WordReading::extent_of))]
-fn extent(alloc: Global, words: &[Word]) -> Result<Form, Stop>
+fn extent(alloc: Global, words: &[Piece]) -> Result<Form, Stop>
     ensures { Gives (λ form. form) result (extent_of words.now) }
 {
     match words {
@@ -54,7 +54,7 @@ fn extent(alloc: Global, words: &[Word]) -> Result<Form, Stop>
 
 /// `NAME NAME KIND`
 #[tactic(auto, unfolding(crate::specs::WordReading::place_of))]
-fn place(alloc: Global, words: &[Word]) -> Result<Form, Stop>
+fn place(alloc: Global, words: &[Piece]) -> Result<Form, Stop>
     ensures { Gives (λ form. form) result (place_of words.now) }
 {
     match words {
@@ -70,7 +70,7 @@ fn place(alloc: Global, words: &[Word]) -> Result<Form, Stop>
 
 /// `block`, `cyclic NUM` or `listed FILE`
 #[tactic(auto, unfolding(crate::specs::WordReading::kind_of))]
-fn kind(alloc: Global, words: &[Word]) -> Result<RawKind, Stop>
+fn kind(alloc: Global, words: &[Piece]) -> Result<RawKind, Stop>
     ensures { Gives (λ kind. kind) result (kind_of words.now) }
 {
     match words {
@@ -99,7 +99,7 @@ fn kind(alloc: Global, words: &[Word]) -> Result<RawKind, Stop>
 
 /// `NAME LEVELS`
 #[tactic(auto, unfolding(crate::specs::WordReading::format_of))]
-fn format(alloc: Global, words: &[Word]) -> Result<Form, Stop>
+fn format(alloc: Global, words: &[Piece]) -> Result<Form, Stop>
     ensures { Gives (λ form. form) result (format_of words.now) }
 {
     match words {
@@ -114,7 +114,7 @@ fn format(alloc: Global, words: &[Word]) -> Result<Form, Stop>
 
 /// `NAME EXTENTS NAME AXIS by NAME SOURCE`
 #[tactic(auto, unfolding(crate::specs::WordReading::array_of))]
-fn array(alloc: Global, words: &[Word]) -> Result<Form, Stop>
+fn array(alloc: Global, words: &[Piece]) -> Result<Form, Stop>
     ensures { Gives (λ form. form) result (array_of words.now) }
 {
     match words {
@@ -144,7 +144,7 @@ fn array(alloc: Global, words: &[Word]) -> Result<Form, Stop>
 
 /// `zero`, or `from FILE`
 #[tactic(auto, unfolding(crate::specs::WordReading::source_of))]
-fn source(alloc: Global, words: &[Word]) -> Result<Option<Text>, Stop>
+fn source(alloc: Global, words: &[Piece]) -> Result<Option<Text>, Stop>
     ensures { Gives (λ file. file) result (source_of words.now) }
 {
     match words {
@@ -190,12 +190,14 @@ fn extents(alloc: Global, word: &[u8]) -> Result<Items<Text>, Stop>
 fn comma_place(word: &[u8]) -> usize
     ensures { result ≡ comma_place word.now }
 {
-    word.iter().position(|byte| *byte == b',').unwrap_or(word.len())
+    word.iter()
+        .position(|byte| *byte == b',')
+        .unwrap_or(word.len())
 }
 
 /// `NAME`
 #[tactic(auto, unfolding(crate::specs::WordReading::print_of))]
-fn print(alloc: Global, words: &[Word]) -> Result<Form, Stop>
+fn print(alloc: Global, words: &[Piece]) -> Result<Form, Stop>
     ensures { Gives (λ form. form) result (print_of words.now) }
 {
     match words {
@@ -223,11 +225,19 @@ pub(crate) fn axis(word: &[u8]) -> Option<Axis>
 fn name_text(alloc: Global, word: &[u8]) -> Result<Text, Stop>
     ensures { Gives (λ name. name) result (name_of word.now) }
 {
-    if is_name(word) { Ok(Text::from_bytes(alloc, word)?) } else { Err(Stop::NoForm) }
+    if is_name(word) {
+        Ok(Text::from_bytes(alloc, word)?)
+    } else {
+        Err(Stop::NoForm)
+    }
 }
 
 pub(crate) fn file_text(alloc: Global, word: &[u8]) -> Result<Text, Stop>
     ensures { Gives (λ file. file) result (file_of word.now) }
 {
-    if is_file_name(word) { Ok(Text::from_bytes(alloc, word)?) } else { Err(Stop::NoForm) }
+    if is_file_name(word) {
+        Ok(Text::from_bytes(alloc, word)?)
+    } else {
+        Err(Stop::NoForm)
+    }
 }

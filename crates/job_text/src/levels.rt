@@ -4,14 +4,14 @@ ghost use Rattle.job_text.specs.Reading.{Gives};
 
 use crate::forms::{axis, file_text};
 use crate::offsets::offsets;
+use crate::pieces::Piece;
 use crate::stop::Stop;
-use crate::words::Word;
 use bern_base::{Axis, RawShape};
 use std::alloc::Global;
 
 /// The levels of a format, by their first word. A new format is one more case.
 #[tactic(auto, unfolding(crate::specs::WordReading::levels_of))]
-pub(crate) fn levels(alloc: Global, words: &[Word]) -> Result<RawShape, Stop>
+pub(crate) fn levels(alloc: Global, words: &[Piece]) -> Result<RawShape, Stop>
     ensures { Gives (λ shape. shape) result (levels_of words.now) }
 {
     match words {
@@ -33,7 +33,7 @@ pub(crate) fn levels(alloc: Global, words: &[Word]) -> Result<RawShape, Stop>
 }
 
 /// Nothing follows `jagged`.
-fn jagged(words: &[Word]) -> Option<RawShape>
+fn jagged(words: &[Piece]) -> Option<RawShape>
     ensures { result ≡ jagged_of words.now }
 {
     match words {
@@ -44,12 +44,18 @@ fn jagged(words: &[Word]) -> Option<RawShape>
 
 /// `FILE row dense > col packed`
 #[tactic(auto, unfolding(crate::specs::WordReading::permute_of))]
-fn permute(alloc: Global, words: &[Word]) -> Result<RawShape, Stop>
+fn permute(alloc: Global, words: &[Piece]) -> Result<RawShape, Stop>
     ensures { Gives (λ shape. shape) result (permute_of words.now) }
 {
     match words {
         [file, outer, first, above, inner, second] => {
-            if are_permuted(outer.bytes(), first.bytes(), above.bytes(), inner.bytes(), second.bytes()) {
+            if are_permuted(
+                outer.bytes(),
+                first.bytes(),
+                above.bytes(),
+                inner.bytes(),
+                second.bytes(),
+            ) {
                 let file = file_text(alloc, file.bytes())?;
                 Ok(RawShape::Permute(file))
             } else {
@@ -72,7 +78,7 @@ fn are_permuted(outer: &[u8], first: &[u8], above: &[u8], inner: &[u8], second: 
 
 /// One level, a list of two dimensions, or two levels.
 #[tactic(auto, unfolding(crate::specs::WordReading::axes_of))]
-fn axes(words: &[Word]) -> Option<RawShape>
+fn axes(words: &[Piece]) -> Option<RawShape>
     ensures { result ≡ axes_of words.now }
 {
     match words {
@@ -85,7 +91,13 @@ fn axes(words: &[Word]) -> Option<RawShape>
         }
         [first, second, level] => list(first.bytes(), second.bytes(), level.bytes()),
         [outer, first, above, inner, second] => match axis(outer.bytes()) {
-            Some(outer) => inner_level(first.bytes(), above.bytes(), inner.bytes(), second.bytes(), outer),
+            Some(outer) => inner_level(
+                first.bytes(),
+                above.bytes(),
+                inner.bytes(),
+                second.bytes(),
+                outer,
+            ),
             None => None,
         },
         _ => None,
@@ -119,7 +131,13 @@ fn list(first: &[u8], second: &[u8], level: &[u8]) -> Option<RawShape>
 }
 
 /// Two levels, the outer one over this axis.
-fn inner_level(first: &[u8], above: &[u8], inner: &[u8], second: &[u8], outer: Axis) -> Option<RawShape>
+fn inner_level(
+    first: &[u8],
+    above: &[u8],
+    inner: &[u8],
+    second: &[u8],
+    outer: Axis,
+) -> Option<RawShape>
     ensures { result ≡ inner_of first.now above.now inner.now second.now outer }
 {
     if above == b">".as_slice() && is_inner(outer, inner) {

@@ -7,10 +7,10 @@ ghost use Rattle.job_text.specs.Reading.{Gives, seen};
 
 use crate::lines::trimmed;
 use crate::marks::{double_mark, single_mark};
+use crate::names::{is_digit, is_name, is_name_byte, is_name_start};
 use crate::numbers::number;
 use crate::stop::Stop;
 use crate::tokens::{Mark, Token};
-use crate::names::{is_digit, is_name, is_name_byte, is_name_start};
 use bern_base::Text;
 use std::alloc::Global;
 
@@ -64,7 +64,9 @@ fn number_token<'a>(text: &'a [u8]) -> Result<(Token, &'a [u8]), Stop>
 fn digits_end(text: &[u8]) -> usize
     ensures { result ≡ digits_end text.now }
 {
-    text.iter().position(|byte| !is_digit(*byte)).unwrap_or(text.len())
+    text.iter()
+        .position(|byte| !is_digit(*byte))
+        .unwrap_or(text.len())
 }
 
 /// A run of letters, digits and `_`, taken whole.
@@ -79,7 +81,9 @@ fn word<'a>(alloc: Global, text: &'a [u8]) -> Result<(Token, &'a [u8]), Stop>
 fn word_end(text: &[u8]) -> usize
     ensures { result ≡ word_end text.now }
 {
-    text.iter().position(|byte| !is_name_byte(*byte)).unwrap_or(text.len())
+    text.iter()
+        .position(|byte| !is_name_byte(*byte))
+        .unwrap_or(text.len())
 }
 
 fn word_token(alloc: Global, word: &[u8]) -> Result<Token, Stop>

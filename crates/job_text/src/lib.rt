@@ -5,15 +5,20 @@
 
 mod expressions;
 mod forms;
+mod job;
 mod levels;
 mod lexer;
+mod line_forms;
 mod lines;
 mod marks;
 mod names;
 mod nests;
 mod numbers;
 mod offsets;
+mod pieces;
 mod stop;
 mod sums;
 mod tokens;
 mod words;
+
+pub use job::{JobError, a_text_has_one_form, bytes_have_one_meaning, read_job};

@@ -1,23 +1,25 @@
-ghost use Rattle.std.specs.Prelude.{◌≡◌, map, IfOk};
+ghost use Rattle.std.specs.Prelude.{◌≡◌, IfOk};
 ghost use Rattle.std.specs.List.{before_first, position_or_len};
 ghost use Rattle.std.specs.Str.Lines.{strip_carriage_return};
-ghost use Rattle.bstr.specs.Text.{lines_of};
-ghost use Rattle.job_text.specs.Lines.{without_feed, is_hash, is_blank, is_some_text, trimmed, said};
+ghost use Rattle.job_text.specs.Lines.{lines, without_feed, is_hash, is_blank, is_some_text, trimmed, said};
 
-use crate::stop::Stop;
+use crate::pieces::Piece;
+use bern_base::NoMemory;
 use bstr::ByteSlice;
 use std::alloc::Global;
 
-/// The lines of a file with their feeds.
-pub(crate) fn fed_lines<'a>(alloc: Global, bytes: &'a [u8]) -> Result<Vec<&'a [u8]>, Stop>
-    ensures { IfOk result (λ found. map (λ line. line.now) found.items ≡ lines_of bytes.now) }
+/// The lines of a file, each without its feed and one carriage return before it.
+pub(crate) fn lines<'a>(alloc: Global, bytes: &'a [u8]) -> Result<Vec<Piece<'a>>, NoMemory>
+    ensures { IfOk result (λ found. found.items ≡ lines bytes.now) }
 {
-    let lines = bytes.lines_with_terminator().collect(alloc)?;
+    let lines = bytes
+        .lines_with_terminator()
+        .map(|line| Piece::new(without_end(line)))
+        .collect(alloc)?;
     Ok(lines)
 }
 
-/// A line without its feed and one carriage return before it.
-pub(crate) fn without_end(line: &[u8]) -> &[u8]
+fn without_end(line: &[u8]) -> &[u8]
     ensures { result.now ≡ strip_carriage_return (without_feed line.now) }
 {
     without_return(without_feed(line))

@@ -10,7 +10,11 @@ pub(crate) fn double_mark(first: u8, second: u8) -> Option<Mark>
     if second == b'=' {
         equal_mark(first)
     } else if second == b'.' {
-        if first == b'.' { Some(Mark::Dots) } else { None }
+        if first == b'.' {
+            Some(Mark::Dots)
+        } else {
+            None
+        }
     } else {
         None
     }

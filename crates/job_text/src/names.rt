@@ -59,9 +59,7 @@ fn is_joining_word(word: &[u8]) -> bool
 fn is_place_word(word: &[u8]) -> bool
     ensures { result ≡ is_among place_words word.now }
 {
-    word == b"block".as_slice()
-        || word == b"cyclic".as_slice()
-        || word == b"listed".as_slice()
+    word == b"block".as_slice() || word == b"cyclic".as_slice() || word == b"listed".as_slice()
 }
 
 /// A word of levels.

@@ -29,7 +29,12 @@ pub(crate) fn nest(alloc: Global, tokens: &[Token]) -> Result<RawNest, Stop>
 
 /// The part of a nest from its colon on.
 #[tactic(auto, unfolding(crate::specs::NestReading::statement_at))]
-fn statement(alloc: Global, vars: Items<RawVar>, guards: Items<RawGuard>, tokens: &[Token]) -> Result<RawNest, Stop>
+fn statement(
+    alloc: Global,
+    vars: Items<RawVar>,
+    guards: Items<RawGuard>,
+    tokens: &[Token],
+) -> Result<RawNest, Stop>
     ensures { (n : ℕ) → length tokens.now < n → Gives (λ nest. nest) result (statement_at n vars guards tokens.now) }
 {
     match tokens {
@@ -37,7 +42,13 @@ fn statement(alloc: Global, vars: Items<RawVar>, guards: Items<RawGuard>, tokens
             let (target, rest) = reference(alloc, rest)?;
             let (replace, rest) = assignment(rest)?;
             let body = whole_expression(alloc, rest)?;
-            Ok(RawNest { vars, guards, target, replace, body })
+            Ok(RawNest {
+                vars,
+                guards,
+                target,
+                replace,
+                body,
+            })
         }
         _ => Err(Stop::NoForm),
     }
@@ -79,7 +90,11 @@ fn variables<'a>(alloc: Global, tokens: &'a [Token]) -> Result<(Items<RawVar>, &
 }
 
 /// The variables, the first of this name.
-fn variables_from<'a>(alloc: Global, first: &'a Text, tokens: &'a [Token]) -> Result<(Items<RawVar>, &'a [Token]), Stop>
+fn variables_from<'a>(
+    alloc: Global,
+    first: &'a Text,
+    tokens: &'a [Token],
+) -> Result<(Items<RawVar>, &'a [Token]), Stop>
     ensures value { (n : ℕ) → length tokens.now < n → Gives seen result (vars_from n first.now tokens.now) }
     ensures shorter { IfOk result (λ p. length p.1.now < length tokens.now) }
 {
@@ -139,7 +154,10 @@ fn guards<'a>(alloc: Global, tokens: &'a [Token]) -> Result<(Items<RawGuard>, &'
 }
 
 /// Guards with commas between them.
-fn guards_from<'a>(alloc: Global, tokens: &'a [Token]) -> Result<(Items<RawGuard>, &'a [Token]), Stop>
+fn guards_from<'a>(
+    alloc: Global,
+    tokens: &'a [Token],
+) -> Result<(Items<RawGuard>, &'a [Token]), Stop>
     ensures value { (n : ℕ) → length tokens.now < n → Gives seen result (guards_from n tokens.now) }
     ensures shorter { IfOk result (λ p. length p.1.now < length tokens.now) }
 {

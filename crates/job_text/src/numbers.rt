@@ -11,7 +11,11 @@ use crate::names::is_digit;
 pub(crate) fn number(word: &[u8]) -> Option<u64>
     ensures { result ≡ number_of word.now }
 {
-    if is_numeral(word) { value_of(word) } else { None }
+    if is_numeral(word) {
+        value_of(word)
+    } else {
+        None
+    }
 }
 
 fn is_numeral(word: &[u8]) -> bool

@@ -3,13 +3,13 @@ ghost use Rattle.job_text.specs.WordReading.{offset_of, is_above, risen, next_of
 ghost use Rattle.job_text.specs.Reading.{Gives};
 
 use crate::numbers::number;
+use crate::pieces::Piece;
 use crate::stop::Stop;
-use crate::words::Word;
 use bern_base::Items;
 use std::alloc::Global;
 
 /// The offsets of diagonals, one at least, each above the one before it.
-pub(crate) fn offsets(alloc: Global, words: &[Word]) -> Result<Items<i128>, Stop>
+pub(crate) fn offsets(alloc: Global, words: &[Piece]) -> Result<Items<i128>, Stop>
     ensures { Gives (λ offsets. offsets) result (offsets_of words.now) }
 {
     match words {
@@ -19,7 +19,7 @@ pub(crate) fn offsets(alloc: Global, words: &[Word]) -> Result<Items<i128>, Stop
 }
 
 /// Offsets that rise.
-fn rising(alloc: Global, words: &[Word]) -> Result<Items<i128>, Stop>
+fn rising(alloc: Global, words: &[Piece]) -> Result<Items<i128>, Stop>
     ensures { Gives (λ offsets. offsets) result (offsets_from None words.now) }
 {
     let mut offsets = Items::new(alloc);
@@ -49,7 +49,11 @@ fn next_offset(last: Option<i128>, word: &[u8]) -> Option<i128>
 fn risen(last: Option<i128>, next: i128) -> Option<i128>
     ensures { result ≡ risen last next }
 {
-    if is_above(last, next) { Some(next) } else { None }
+    if is_above(last, next) {
+        Some(next)
+    } else {
+        None
+    }
 }
 
 fn is_above(last: Option<i128>, next: i128) -> bool

@@ -14,7 +14,10 @@ const LIMIT: u64 = 4_294_967_296;
 
 /// An array's name and its subscripts in brackets.
 #[tactic(auto, unfolding(crate::specs::NestReading::ref_at))]
-pub(crate) fn reference<'a>(alloc: Global, tokens: &'a [Token]) -> Result<(RawRef, &'a [Token]), Stop>
+pub(crate) fn reference<'a>(
+    alloc: Global,
+    tokens: &'a [Token],
+) -> Result<(RawRef, &'a [Token]), Stop>
     ensures value { Gives seen result (ref_at tokens.now) }
     ensures shorter { IfOk result (λ p. length p.1.now < length tokens.now) }
 {
@@ -64,7 +67,11 @@ pub(crate) fn sum<'a>(alloc: Global, tokens: &'a [Token]) -> Result<(RawSum, &'a
 }
 
 /// The items of a sum, the first with this sign.
-fn items<'a>(alloc: Global, minus: bool, tokens: &'a [Token]) -> Result<(Items<RawItem>, &'a [Token]), Stop>
+fn items<'a>(
+    alloc: Global,
+    minus: bool,
+    tokens: &'a [Token],
+) -> Result<(Items<RawItem>, &'a [Token]), Stop>
     ensures value { Gives seen result (items_at minus tokens.now) }
     ensures shorter { IfOk result (λ p. length p.1.now < length tokens.now) }
 {
@@ -92,24 +99,50 @@ fn item<'a>(alloc: Global, minus: bool, tokens: &'a [Token]) -> Result<(RawItem,
     ensures shorter { IfOk result (λ p. length p.1.now < length tokens.now) }
 {
     match tokens {
-        [Token::Num(number), Token::Mark(Mark::Star), Token::Name(name), rest @ ..] => {
+        [
+            Token::Num(number),
+            Token::Mark(Mark::Star),
+            Token::Name(name),
+            rest @ ..,
+        ] => {
             if *number < LIMIT {
                 let name = Text::from_bytes(alloc, name.as_bytes())?;
-                Ok((RawItem { minus, number: *number, name: Some(name) }, rest))
+                Ok((
+                    RawItem {
+                        minus,
+                        number: *number,
+                        name: Some(name),
+                    },
+                    rest,
+                ))
             } else {
                 Err(Stop::NoForm)
             }
         }
         [Token::Num(number), rest @ ..] => {
             if *number < LIMIT {
-                Ok((RawItem { minus, number: *number, name: None }, rest))
+                Ok((
+                    RawItem {
+                        minus,
+                        number: *number,
+                        name: None,
+                    },
+                    rest,
+                ))
             } else {
                 Err(Stop::NoForm)
             }
         }
         [Token::Name(name), rest @ ..] => {
             let name = Text::from_bytes(alloc, name.as_bytes())?;
-            Ok((RawItem { minus, number: 1, name: Some(name) }, rest))
+            Ok((
+                RawItem {
+                    minus,
+                    number: 1,
+                    name: Some(name),
+                },
+                rest,
+            ))
         }
         _ => Err(Stop::NoForm),
     }

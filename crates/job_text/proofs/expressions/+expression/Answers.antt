@@ -1,6 +1,6 @@
-use Rattle.std.proofs.Common.{◌≡◌, ◌≢◌, ℕ, zero, suc, ◌+◌, ◌-◌, ◌<◌, ◌≤◌, Some, None, List, length, option_map, sym, ap, subst, ◌∙◌, arith, refl}
+use Rattle.std.proofs.Common.{◌≡◌, ◌≢◌, ℕ, zero, suc, ◌-◌, Some, List, option_map, sym, ap, ◌∙◌, arith, refl}
 use Rattle.std.proofs.lemmas.Result.{err_from_is_err_and}
-use Rattle.bern_base.specs.declared.raw.RawExpr.{RawExpr, roll-RawExpr}
+use Rattle.bern_base.specs.declared.raw.RawExpr.{roll-RawExpr}
 use Rattle.job_text.specs.declared.tokens.Token.{Token}
 use Rattle.job_text.specs.Reading.{seen, behind}
 use Rattle.job_text.specs.NestReading.{expr_at, product_at, products_at, factor_at, factors_at, starred_at, first_sign, sign_at, star_at}

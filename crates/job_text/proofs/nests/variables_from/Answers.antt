@@ -1,4 +1,4 @@
-use Rattle.std.proofs.Common.{◌≡◌, ℕ, suc, ◌+◌, ◌<◌, ◌≤◌, Some, length, option_map, sym, ap, ◌∙◌, arith}
+use Rattle.std.proofs.Common.{Some, option_map, sym, ap, ◌∙◌, arith}
 use Rattle.std.proofs.lemmas.Result.{err_from_is_err_and}
 use Rattle.job_text.specs.Reading.{seen, named}
 use Rattle.job_text.specs.NestReading.{span_at, name_at, vars_from}

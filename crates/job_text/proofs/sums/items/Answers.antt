@@ -1,4 +1,4 @@
-use Rattle.std.proofs.Common.{◌≡◌, ℕ, Bool, Some, None, ◌+◌, ◌-◌, ◌<◌, ◌≤◌, suc, List, length, option_map, sym, ap, subst, ◌∙◌, arith, refl}
+use Rattle.std.proofs.Common.{◌≡◌, ℕ, Bool, Some, ◌+◌, ◌-◌, ◌<◌, suc, List, option_map, sym, ap, subst, ◌∙◌, arith}
 use Rattle.std.proofs.lemmas.Result.{err_from_is_err_and}
 use Rattle.bern_base.specs.declared.raw.RawItem.{RawItem}
 use Rattle.job_text.specs.declared.tokens.Token.{Token}
