@@ -18,6 +18,8 @@ mod offsets;
 mod pieces;
 mod stop;
 mod sums;
+#[cfg(test)]
+mod tests;
 mod tokens;
 mod words;
 
