@@ -8,6 +8,7 @@ mod items;
 mod letter;
 mod matrix;
 mod memory;
+mod raw;
 mod refusal;
 mod steps;
 #[cfg(test)]
@@ -20,6 +21,10 @@ pub use items::Items;
 pub use letter::{Letter, NeedSet, Needs};
 pub use matrix::{Entry, Matrix, is_matrix};
 pub use memory::NoMemory;
+pub use raw::{
+    Form, JobLine, JobText, RawExpr, RawFactor, RawGuard, RawItem, RawKind, RawNest, RawProduct,
+    RawRef, RawShape, RawSum, RawVar, Rel,
+};
 pub use refusal::{Refusal, Rule};
 pub use steps::Steps;
 pub use text::Text;
