@@ -1,0 +1,137 @@
+ghost use Rattle.std.specs.Prelude.{◌≡◌, ◌≢◌, ◌<◌, length, map, filter, All, IfOk};
+ghost use Rattle.std.specs.List.Sorted.{IsStrictlyIncreasing};
+ghost use Rattle.bern_base.specs.Matrix.{IsMatrix};
+ghost use Rattle.placement.specs.Placement.{owned_indices};
+ghost use Rattle.placement.specs.Part.{index_on, extent_on, part_rows, part_cols, with_index, is_owned, localized, part_of, PartsShareAMatrix};
+ghost use Rattle.placement.specs.Elements.{ElementsAreOwnedOnce};
+
+use crate::place::Placement;
+use bern_base::{Axis, Entry, Items, Matrix, NoMemory};
+use std::alloc::Global;
+
+/// What a rank owns of a matrix.
+#[derive(Debug, Drop)]
+pub struct Part {
+    /// The rank's entries, with local indices on the split axis.
+    pub matrix: Matrix,
+    /// The indices of the split axis that the rank owns, rising. Local index `l` stands for `globals[l]`.
+    pub globals: Items<u32>,
+}
+
+/// The part of a matrix that a rank owns, where the matrix is split along the rows or the columns.
+///
+/// Its entries are those of the rank in the order of the matrix, also those with the value 0. It takes time linear in
+/// the entries of the matrix and the indices of the rank.
+pub fn split<P: Placement>(
+    alloc: Global,
+    matrix: &Matrix,
+    place: &P,
+    axis: Axis,
+    rank: u32,
+) -> Result<Part, NoMemory>
+    requires axis { axis ≢ Axis.Both }
+    requires matrix { IsMatrix matrix.now }
+    requires extent { extent_on axis matrix.now.rows matrix.now.cols ≡ length (P.triples place.now) }
+    requires rank { rank < P.ranks place.now }
+    ensures part { IfOk result (λ part. part ≡ part_of axis (P.triples place.now) rank matrix.now) }
+    ensures matrix { IfOk result (λ part. IsMatrix part.matrix) }
+    ensures globals { IfOk result (λ part. IsStrictlyIncreasing part.globals) }
+{
+    let entries = owned_entries(alloc, matrix.entries.as_slice(), place, axis, rank)?;
+    let globals = globals(alloc, place, rank)?;
+    let matrix = part_matrix(axis, matrix, place.owned(rank), entries);
+    Ok(Part { matrix, globals })
+}
+
+/// The matrix of a part: the sizes of `matrix`, but for the number of owned indices on the split axis, and these entries.
+fn part_matrix(axis: Axis, matrix: &Matrix, owned: u32, entries: Items<Entry>) -> Matrix
+    ensures { result ≡ record {
+      rows = part_rows axis matrix.now owned;
+      cols = part_cols axis matrix.now owned;
+      entries = entries;
+    } }
+{
+    match axis {
+        Axis::Col => Matrix {
+            rows: matrix.rows,
+            cols: owned,
+            entries,
+        },
+        _ => Matrix {
+            rows: owned,
+            cols: matrix.cols,
+            entries,
+        },
+    }
+}
+
+/// The entries of a rank, in the order in which they are given, with local indices.
+fn owned_entries<P: Placement>(
+    alloc: Global,
+    entries: &[Entry],
+    place: &P,
+    axis: Axis,
+    rank: u32,
+) -> Result<Items<Entry>, NoMemory>
+    requires { All (λ e. index_on axis e < length (P.triples place.now)) entries.now }
+    ensures { IfOk result (λ own.
+        own ≡ map (localized axis (P.triples place.now)) (filter (is_owned axis (P.triples place.now) rank) entries.now)) }
+{
+    let mut own = Items::new(alloc);
+    for entry in entries {
+        let index = index_on(axis, entry);
+        if place.owner(index) == rank {
+            own.push(with_index(axis, entry, place.local(index)))?;
+        }
+    }
+    Ok(own)
+}
+
+fn index_on(axis: Axis, entry: &Entry) -> u32
+    ensures { result ≡ index_on axis entry.now }
+{
+    match axis {
+        Axis::Col => entry.col,
+        _ => entry.row,
+    }
+}
+
+fn with_index(axis: Axis, entry: &Entry, index: u32) -> Entry
+    ensures { result ≡ with_index axis entry.now index }
+{
+    match axis {
+        Axis::Col => Entry {
+            col: index,
+            ..*entry
+        },
+        _ => Entry {
+            row: index,
+            ..*entry
+        },
+    }
+}
+
+/// The indices of a rank, rising.
+fn globals<P: Placement>(alloc: Global, place: &P, rank: u32) -> Result<Items<u32>, NoMemory>
+    requires { rank < P.ranks place.now }
+    ensures { IfOk result (λ globals. globals ≡ owned_indices (P.triples place.now) rank) }
+{
+    let owned = place.owned(rank);
+    let mut globals = Vec::with_capacity(alloc, owned as usize)?;
+    for local in 0..owned {
+        globals.push(place.global(rank, local))?;
+    }
+    Ok(Items::from_vec(globals))
+}
+
+/// Over all ranks the parts hold each entry of a matrix once, at its owner and with its local index. The function does
+/// nothing: its contract is the law.
+pub fn parts_share_a_matrix()
+    ensures { PartsShareAMatrix }
+{}
+
+/// Each element of an array is owned by one rank, which is the owner of an entry there. The function does nothing: its
+/// contract is the law.
+pub fn elements_are_owned_once()
+    ensures { ElementsAreOwnedOnce }
+{}
