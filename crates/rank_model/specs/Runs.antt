@@ -1,5 +1,5 @@
 -- A run of the one form of job so far: T[v] += S[v,w] * D[w] over the whole extent of v and w, on some ranks.
-use Rattle.std.specs.Prelude.{◌≡◌, ◌≢◌, ℕ, ◌<◌, ◌≤◌, ◌==◌, Bool, List, length, filter, map}
+use Rattle.std.specs.Prelude.{◌≡◌, ◌≢◌, ℕ, ◌<◌, ◌≤◌, ◌==◌, Bool, true, List, length, filter, map}
 use Rattle.std.specs.List.{All}
 use Rattle.bern_base.specs.declared.axes.Axis.TheVariants.{Row}
 use Rattle.bern_base.specs.declared.matrix.Entry.{Entry}
@@ -9,7 +9,8 @@ use Rattle.placement.specs.Placement.{Triple, IsPlacement, owner_of, owned_indic
 use Rattle.placement.specs.Part.{localized}
 
 -- what contracts see of a run: the ranks, the place of the extent, the numbers of T, S and D among the arrays, the
--- stored elements of S, which elements each rank holds of each array, by their numbers there, and the first state
+-- stored elements of S, which arrays are stored whole, which elements each rank holds of such an array, by their
+-- numbers there, and the first state
 pub record Run : Type 0 where
   pub ranks : ℕ
   pub place : List Triple
@@ -17,6 +18,7 @@ pub record Run : Type 0 where
   pub stored : ℕ
   pub source : ℕ
   pub entries : List Entry
+  pub dense : ℕ → Bool
   pub held : ℕ → ℕ → List ℕ
   pub first : State
 
@@ -48,6 +50,9 @@ pub record IsRun (run : Run) : Type 0 where
   pub inside : All (IsInside (length run.place) (length run.place)) run.entries
   pub apart : run.target ≢ run.source
   pub target : run.target < length run.first
+  pub source : run.source < length run.first
+  pub target_dense : run.dense run.target ≡ true
+  pub source_dense : run.dense run.source ≡ true
   pub target_long : length (values_in run.first run.target) ≡ length run.place
   pub target_held : (p : ℕ) → run.held run.target p ≡ owned_indices run.place p
   pub source_held : (p : ℕ) → run.held run.source p ≡ owned_indices run.place p

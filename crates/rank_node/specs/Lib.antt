@@ -1,0 +1,6 @@
+pub mod Letters
+pub mod NodeStates
+pub mod Positions
+pub mod Sets
+pub mod Sums
+pub mod Waits
