@@ -51,6 +51,7 @@ pub record IsRun (run : Run) : Type 0 where
   pub apart : run.target ≢ run.source
   pub target : run.target < length run.first
   pub source : run.source < length run.first
+  pub dense_within : (array : ℕ) → run.dense array ≡ true → array < length run.first
   pub target_dense : run.dense run.target ≡ true
   pub source_dense : run.dense run.source ≡ true
   pub target_long : length (values_in run.first run.target) ≡ length run.place

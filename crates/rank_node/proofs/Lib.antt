@@ -1,6 +1,7 @@
 pub mod EndLemmas
 pub mod KnownLemmas
 pub mod ListLemmas
+pub mod NewLemmas
 pub mod NodeKept
 pub mod NodeLemmas
 pub mod PositionLemmas

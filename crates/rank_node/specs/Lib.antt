@@ -1,4 +1,6 @@
+pub mod Jobs
 pub mod Letters
+pub mod Made
 pub mod NodeStates
 pub mod Positions
 pub mod Sets

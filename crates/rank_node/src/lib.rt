@@ -3,7 +3,9 @@
 //! Ranks, arrays, element numbers and local numbers count from 0.
 #![tactic(auto)]
 
+mod job;
 mod letters;
+mod made;
 mod node;
 mod sets;
 mod settle;

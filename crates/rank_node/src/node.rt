@@ -2,22 +2,24 @@ ghost use Rattle.std.specs.Prelude.{◌≡◌, ◌<◌, true, [], ◌∷◌, Som
 ghost use Rattle.std.specs.List.{sum_by};
 ghost use Rattle.rank_scripts.specs.Acts.{at_work, at_post};
 ghost use Rattle.rank_scripts.specs.Scripts.{book, IsFrontOf, IsNextOf};
-ghost use Rattle.rank_scripts.specs.Nodes.{sent, worked, posted, took};
-ghost use Rattle.rank_model.specs.Runs.{Run, part_values};
+ghost use Rattle.rank_scripts.specs.Nodes.{fresh, sent, worked, posted, took};
+ghost use Rattle.rank_model.specs.Runs.{Run, IsRun, part_values};
 ghost use Rattle.rank_model.specs.States.{end_state};
 ghost use Rattle.rank_model.specs.Letters.{request, values_letter, scripts, values_in as letter_size};
+ghost use Rattle.rank_node.specs.Jobs.{IsJobOf, ArePartsOf};
 ghost use Rattle.rank_node.specs.Positions.{want_of, state_of, Posts};
 ghost use Rattle.rank_node.specs.Sums.{HaveGrown, inner_term};
 ghost use Rattle.rank_node.specs.Waits.{AreKnown};
 ghost use Rattle.rank_node.specs.NodeStates.{node_of, values_held, IsNode, IsFirstOfRest, IsNextToPost};
 
+use crate::made::{all_values, dealing, empty_lists, factors, no_tallies, stored_entries};
 use crate::letters::{asked_in, request_of, values_in};
 use crate::sets::{asked_sets, put_values, values_at};
 use crate::settle::settled;
 use crate::stage::{Stage, Tally, Want};
 use crate::sums::{add_inner, add_outer, applied, zeros};
-use bern_base::{Entry, Items, Letter, NoMemory, Val};
-use placement::{Cyclic, Placement};
+use bern_base::{Checked, Entry, Items, Letter, NoMemory, Val};
+use placement::{Cyclic, Part, Placement};
 use std::alloc::Global;
 
 /// One rank of a run: its part of the arrays, where it stands, and the letters that it was given.
@@ -47,6 +49,43 @@ pub struct Node {
 }
 
 impl Node {
+    /// The node of a rank at its start. `parts` has the rank's part of each array, by the arrays' numbers.
+    ///
+    /// After want of memory nothing stands.
+    pub fn new(alloc: Global, job: &Checked, rank: u32, ranks: u32, parts: Items<Part>) -> Result<Node, NoMemory>
+        ghost run: { Run }
+        requires run { IsRun run }
+        requires job { IsJobOf run job.now }
+        requires rank { rank < run.ranks }
+        requires ranks { ranks ≡ run.ranks }
+        requires parts { ArePartsOf run rank parts }
+        ensures node { IfOk result (λ node. IsNode run node) }
+        ensures rank { IfOk result (λ node. node.rank ≡ rank) }
+        ensures fresh { IfOk result (λ node. node_of run node ≡ fresh (scripts run) rank) }
+    {
+        let nest = job.nests.at(0);
+        let (extent, block) = dealing(job, nest.target.array, ranks);
+        let (stored, source) = factors(nest);
+        let values = all_values(alloc, job, parts.as_slice())?;
+        let given = empty_lists(alloc, ranks)?;
+        let sent = no_tallies(alloc, ranks)?;
+        Ok(Node {
+            rank,
+            ranks,
+            extent,
+            block,
+            target: nest.target.array,
+            source,
+            entries: stored_entries(parts, stored),
+            values,
+            asks: Items::new(alloc),
+            sums: Items::new(alloc),
+            given: Items::from_vec(given),
+            sent: Items::from_vec(sent),
+            stage: Stage::Inspect,
+        })
+    }
+
     /// The rank that this node is.
     pub fn rank(&self) -> u32
         ensures { result ≡ self.now.rank }

@@ -3,6 +3,7 @@ ghost use Rattle.std.specs.List.{All};
 ghost use Rattle.placement.specs.Placement.{owner_of, owned_of};
 ghost use Rattle.rank_node.specs.Sets.{all_asked, own_values, IsMarked, ArePut};
 
+use crate::made::empty_lists;
 use bern_base::{Entry, Items, NoMemory, Val};
 use placement::Placement;
 use std::alloc::Global;
@@ -17,7 +18,7 @@ pub fn asked_sets<P: Placement>(alloc: Global, entries: &[Entry], extent: u32, p
     ensures { IfOk result (λ sets. sets ≡ all_asked (P.triples place.now) entries.now extent rank ranks) }
 {
     let marks = marks(alloc, entries, extent)?;
-    let mut sets = empty_sets(alloc, ranks)?;
+    let mut sets = empty_lists(alloc, ranks)?;
     for element in 0..extent {
         if marks[element as usize] {
             let owner = place.owner(element);
@@ -39,16 +40,6 @@ fn marks(alloc: Global, entries: &[Entry], extent: u32) -> Result<Vec<bool>, NoM
         marks[entry.col as usize] = true;
     }
     Ok(marks)
-}
-
-fn empty_sets(alloc: Global, ranks: u32) -> Result<Vec<Items<u32>>, NoMemory>
-    ensures { IfOk result (λ sets. sets.items ≡ replicate ranks []) }
-{
-    let mut sets = Vec::with_capacity(alloc, ranks as usize)?;
-    for _ in 0..ranks {
-        sets.push(Items::new(alloc))?;
-    }
-    Ok(sets)
 }
 
 /// The values of elements that the rank owns.

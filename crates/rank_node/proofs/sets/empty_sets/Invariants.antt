@@ -1,6 +1,0 @@
--- So many empty sets so far.
-use Rattle.std.proofs.Common.{◌≡◌, replicate, []}
-use Rattle.rank_node.proofs.sets.empty_sets.Given as goal
-
-abbrev pub invariant-loop : goal.invariant-loop
-invariant-loop l = l.sets.items ≡ replicate l.counter []
