@@ -3,8 +3,10 @@
 //! Ranks, rows, columns and loop values count from 0. Only readers, printed texts and line numbers count from 1.
 #![tactic(auto)]
 
+mod affine;
 mod axes;
 mod items;
+mod job;
 mod letter;
 mod matrix;
 mod memory;
@@ -16,8 +18,13 @@ mod tests;
 mod text;
 mod val;
 
+pub use affine::{Affine, Point};
 pub use axes::Axis;
 pub use items::Items;
+pub use job::{
+    ArrayDecl, Checked, Expr, ExtentDecl, Factor, FormatDecl, Guard, Nest, PlaceDecl, PlaceKind,
+    Product, Ref, Shape, Span,
+};
 pub use letter::{Letter, NeedSet, Needs};
 pub use matrix::{Entry, Matrix, is_matrix};
 pub use memory::NoMemory;
