@@ -38,7 +38,7 @@ fn products<'a>(
     ensures value { (n : ℕ) → length tokens.now < n → Gives seen result (products_at n levels minus tokens.now) }
     ensures shorter { IfOk result (λ p. length p.1.now < length tokens.now) }
 {
-    let mut products = Items::new(alloc);
+    let mut products = Items::from_vec(Vec::with_capacity(alloc, 1)?);
     let mut minus = minus;
     let mut rest = tokens;
     loop {
@@ -79,7 +79,7 @@ fn factors<'a>(
     ensures value { (n : ℕ) → length tokens.now < n → Gives seen result (factors_at (expr_at n levels) n tokens.now) }
     ensures shorter { IfOk result (λ p. length p.1.now < length tokens.now) }
 {
-    let mut factors = Items::new(alloc);
+    let mut factors = Items::from_vec(Vec::with_capacity(alloc, 1)?);
     let mut rest = tokens;
     loop {
         let (factor, after) = factor(alloc, levels, rest)?;

@@ -98,7 +98,7 @@ fn variables_from<'a>(
     ensures value { (n : ℕ) → length tokens.now < n → Gives seen result (vars_from n first.now tokens.now) }
     ensures shorter { IfOk result (λ p. length p.1.now < length tokens.now) }
 {
-    let mut vars = Items::new(alloc);
+    let mut vars = Items::from_vec(Vec::with_capacity(alloc, 1)?);
     let mut name = first;
     let mut rest = tokens;
     loop {
@@ -161,7 +161,7 @@ fn guards_from<'a>(
     ensures value { (n : ℕ) → length tokens.now < n → Gives seen result (guards_from n tokens.now) }
     ensures shorter { IfOk result (λ p. length p.1.now < length tokens.now) }
 {
-    let mut guards = Items::new(alloc);
+    let mut guards = Items::from_vec(Vec::with_capacity(alloc, 1)?);
     let mut rest = tokens;
     loop {
         let (guard, after) = guard(alloc, rest)?;

@@ -43,7 +43,7 @@ fn subscripts<'a>(alloc: Global, tokens: &'a [Token]) -> Result<(Items<RawSum>, 
     ensures shorter { IfOk result (λ p. length p.1.now < length tokens.now) }
 {
     let (row, rest) = sum(alloc, tokens)?;
-    let mut subs = Items::new(alloc);
+    let mut subs = Items::from_vec(Vec::with_capacity(alloc, 1)?);
     subs.push(row)?;
     match rest {
         [Token::Mark(Mark::Comma), rest @ ..] => {
@@ -75,7 +75,7 @@ fn items<'a>(
     ensures value { Gives seen result (items_at minus tokens.now) }
     ensures shorter { IfOk result (λ p. length p.1.now < length tokens.now) }
 {
-    let mut items = Items::new(alloc);
+    let mut items = Items::from_vec(Vec::with_capacity(alloc, 1)?);
     let mut minus = minus;
     let mut rest = tokens;
     for _ in 0..ITEMS {

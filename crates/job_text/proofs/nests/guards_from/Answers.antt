@@ -8,14 +8,14 @@ use Rattle.job_text.proofs.nests.guards_from.Goals as goal
 
 pub loop-guards-init : goal.loop-guards-init
 loop-guards-init c = record {
-  carries = λ n below. rw c.new-guards.ensures (carries_first guard_at comma_at n tt c.args.tokens.now below);
+  carries = λ n below. rw (c.from_vec-guards.ensures ∙ c.in_ok-with_capacity.ensures.items) (carries_first guard_at comma_at n tt c.args.tokens.now below);
   within = omega arith;
 }
 
 pub returns-in_err-guard-clause-value : goal.returns-in_err-guard-clause-value
 returns-in_err-guard-clause-value c = λ n below.
     let all = guards_from n c.args.tokens.now in
-    gives_err seen c.from_residual.result c.in_err-guard.field-0.0 (guard_at tt c.loop-guards.rest.now) all (err_from_is_err_and c.from_residual.result c.from_residual.ensures.1) c.in_err-guard.ensures.value
+    gives_err seen c.from_residual-in_err-guard.result c.in_err-guard.field-0.0 (guard_at tt c.loop-guards.rest.now) all (err_from_is_err_and c.from_residual-in_err-guard.result c.from_residual-in_err-guard.ensures.1) c.in_err-guard.ensures.value
     (carries_fail guard_at comma_at c.loop-guards.guards tt c.loop-guards.rest.now all (c.loop-guards.invariant.carries n below))
 
 pub loop-guards-preserved : goal.loop-guards-preserved

@@ -8,14 +8,14 @@ use Rattle.job_text.proofs.nests.variables_from.Goals as goal
 
 pub loop-vars-init : goal.loop-vars-init
 loop-vars-init c = record {
-  carries = λ n below. rw c.new-vars.ensures (carries_first span_at name_at n c.args.first.now c.args.tokens.now below);
+  carries = λ n below. rw (c.from_vec-vars.ensures ∙ c.in_ok-with_capacity.ensures.items) (carries_first span_at name_at n c.args.first.now c.args.tokens.now below);
   within = omega arith;
 }
 
 pub returns-in_err-var-clause-value : goal.returns-in_err-var-clause-value
 returns-in_err-var-clause-value c = λ n below.
     let all = vars_from n c.args.first.now c.args.tokens.now in
-    gives_err seen c.from_residual.result c.in_err-var.field-0.0 (span_at c.loop-vars.name.now c.loop-vars.rest.now) all (err_from_is_err_and c.from_residual.result c.from_residual.ensures.1) c.in_err-var.ensures.value
+    gives_err seen c.from_residual-in_err-var.result c.in_err-var.field-0.0 (span_at c.loop-vars.name.now c.loop-vars.rest.now) all (err_from_is_err_and c.from_residual-in_err-var.result c.from_residual-in_err-var.ensures.1) c.in_err-var.ensures.value
     (carries_fail span_at name_at c.loop-vars.vars c.loop-vars.name.now c.loop-vars.rest.now all (c.loop-vars.invariant.carries n below))
 
 pub loop-vars-preserved : goal.loop-vars-preserved
