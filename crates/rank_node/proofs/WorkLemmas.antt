@@ -1,8 +1,8 @@
 -- What a node keeps as it works, and what it knows of its entries.
-use Rattle.std.proofs.Common.{◌≡◌, ℕ, zero, suc, ◌+◌, ◌<◌, ◌≤◌, Bool, true, false, ◌==◌, ◌||◌, ◌&&◌, not, List, [], ◌∷◌, length, map, filter, get_or, set, replicate, Some, slice_get, refl, sym, ap, ◌∙◌, subst, ◌⊎◌, inl, inr, arith}
+use Rattle.std.proofs.Common.{◌≡◌, ℕ, zero, suc, ◌+◌, ◌<◌, ◌≤◌, Bool, true, false, cond, ◌==◌, ◌||◌, ◌&&◌, not, List, [], ◌∷◌, length, map, filter, get_or, set, replicate, Some, slice_get, refl, sym, ap, ◌∙◌, subst, ◌⊎◌, inl, inr, arith}
 use Rattle.std.specs.List.{All, range_with_len}
 use Rattle.std.proofs.Math.Nat.{zero-add}
-use Rattle.std.proofs.lemmas.Bool.{eqb-true, cases_eq, false≢true}
+use Rattle.std.proofs.lemmas.Bool.{eqb-true, cases_eq, false≢true, cond-true, cond-false}
 use Rattle.std.proofs.lemmas.List.{length-map, length-replicate, length-set, get_or-set_same, get_or-set_other}
 use Rattle.std.proofs.lemmas.List.Elements.{All-map, All-filter, All-same, filter_passes, filter_agree}
 use Rattle.std.proofs.lemmas.List.FromFn.{get_or-map-range_with_len, length-map-range_with_len}
@@ -14,7 +14,7 @@ use Rattle.placement.specs.PlacementLaws.{local-below}
 use Rattle.placement.specs.CyclicLaws.{length-cyclic}
 use Rattle.placement.specs.Part.{localized}
 use Rattle.placement.proofs.IndexLemmas.{length-owned_indices}
-use Rattle.rank_scripts.specs.Acts.{Work, at_work}
+use Rattle.rank_scripts.specs.Acts.{Work, at_work, at_end}
 use Rattle.rank_scripts.specs.Nodes.{worked, sent, NodeFit}
 use Rattle.rank_scripts.specs.Nodes as scripted
 use Rattle.rank_scripts.proofs.NodeLemmas.{worked_fit}
@@ -252,3 +252,22 @@ inner_kept run n is summed =
 
 pub inner_sums_long : (run : Run) (n : Node) → IsNode run n → is_summed n.stage ≡ true → length n.sums ≡ owned_of run.place n.rank
 inner_sums_long run n is summed = (inner_kept run n is summed).long ∙ length_zeros (owned_of run.place n.rank)
+
+-- the state of which a rank holds its part, by what it has still to do
+pub state_is : (run : Run) (r : ℕ) (stage : Stage) → HasItsLetter run r stage → state_of run stage ≡ cond (at_end (todo_of run r stage)) (end_state run) run.first
+state_is run r Inspect has = refl
+state_is run r (Request to) has = let todo = ap at_end (post_request run r to (Request to) refl has) in rw todo refl
+state_is run r AwaitRequests has = refl
+state_is run r (Values to) has = let todo = ap at_end (post_values run r to (Values to) refl has).todo in rw todo refl
+state_is run r Inner has = refl
+state_is run r AwaitValues has = refl
+state_is run r Outer has = refl
+state_is run r Done has = refl
+
+pub held_before : (run : Run) (n : Node) (array : ℕ) → IsNode run n → run.dense array ≡ true → at_end (todo_of run n.rank n.stage) ≡ false → values_held n array ≡ part_values run run.first array n.rank
+held_before run n array is whole at =
+    is.part array whole ∙ ap (λ state. part_values run state array n.rank) (state_is run n.rank n.stage is.letter ∙ cond-false _ (end_state run) run.first at)
+
+pub held_at_end : (run : Run) (n : Node) (array : ℕ) → IsNode run n → run.dense array ≡ true → at_end (todo_of run n.rank n.stage) ≡ true → values_held n array ≡ part_values run (end_state run) array n.rank
+held_at_end run n array is whole at =
+    is.part array whole ∙ ap (λ state. part_values run state array n.rank) (state_is run n.rank n.stage is.letter ∙ cond-true _ (end_state run) run.first at)

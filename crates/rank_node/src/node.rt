@@ -1,10 +1,10 @@
-ghost use Rattle.std.specs.Prelude.{◌≡◌, ◌<◌, true, [], ◌∷◌, Some, length, replicate, IfOk, IfErr, OnOk, OnErr};
+ghost use Rattle.std.specs.Prelude.{◌≡◌, ◌<◌, true, false, [], ◌∷◌, Some, length, replicate, IfOk, IfErr, OnOk, OnErr};
 ghost use Rattle.std.specs.List.{sum_by};
-ghost use Rattle.rank_scripts.specs.Acts.{at_work, at_post};
+ghost use Rattle.rank_scripts.specs.Acts.{at_work, at_post, at_end};
 ghost use Rattle.rank_scripts.specs.Scripts.{book, IsFrontOf, IsNextOf};
 ghost use Rattle.rank_scripts.specs.Nodes.{fresh, sent, worked, posted, took};
 ghost use Rattle.rank_model.specs.Runs.{Run, IsRun, part_values};
-ghost use Rattle.rank_model.specs.States.{end_state};
+ghost use Rattle.rank_model.specs.States.{state_before, end_state};
 ghost use Rattle.rank_model.specs.Letters.{request, values_letter, scripts, values_in as letter_size};
 ghost use Rattle.rank_node.specs.Jobs.{IsJobOf, ArePartsOf};
 ghost use Rattle.rank_node.specs.Positions.{want_of, state_of, Posts};
@@ -131,13 +131,15 @@ impl Node {
         self.given.at(from as usize).len() as u64
     }
 
-    /// The values of the rank's part of an array that is stored whole, by its own numbers of the elements.
+    /// The values of the rank's part of an array that is stored whole, by its own numbers of the elements: those before
+    /// the nest, and once the rank is done those behind it.
     pub fn owned_values(&self, array: u32) -> &Items<Val>
         ghost run: { Run }
         requires node { IsNode run self.now }
         requires array { array < length run.first }
         requires whole { run.dense array ≡ true }
-        ensures { result.now ≡ part_values run (state_of run self.now.stage) array self.now.rank }
+        ensures before { at_end (node_of run self.now).todo ≡ false → result.now ≡ part_values run (state_before run) array self.now.rank }
+        ensures end { at_end (node_of run self.now).todo ≡ true → result.now ≡ part_values run (end_state run) array self.now.rank }
     {
         self.values.at(array as usize)
     }
