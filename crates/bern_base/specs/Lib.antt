@@ -1,3 +1,4 @@
+pub mod Affine
 pub mod formers
 pub mod Matrix
 pub mod Ring

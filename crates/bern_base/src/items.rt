@@ -1,4 +1,4 @@
-ghost use Rattle.std.specs.Prelude.{◌≡◌, [], ◌∷◌, ◌++◌, ◌<◌, length, take, slice_get, slice_set, ◌↔◌, IsTrue, IfOk, MatchOption, OnOk, OnErr, OnSome};
+ghost use Rattle.std.specs.Prelude.{◌≡◌, [], ◌∷◌, ◌++◌, ◌<◌, length, take, slice_get, slice_set, slice_index_or, ◌↔◌, IsTrue, IfOk, IfErr, MatchOption, OnOk, OnErr, OnSome};
 ghost use Rattle.std.specs.Option.{option_copied};
 
 use crate::memory::NoMemory;
@@ -99,6 +99,18 @@ impl<T: Drop> Items<T> {
         }
     }
 
+    /// Appends an item; after want of memory the list is as before, and the item comes back.
+    pub fn offer(&mut self, item: T) -> Result<(), T>
+        ensures ok { OnOk result (self.new ≡ self.old ++ item ∷ []) }
+        ensures err { OnErr result (self.new ≡ self.old) }
+        ensures back { IfErr result (λ back. back ≡ item) }
+    {
+        match self.items.push(item) {
+            Ok(()) => Ok(()),
+            Err(failed) => Err(failed.value),
+        }
+    }
+
     /// Puts an item in the place of one that is there.
     pub fn set(&mut self, at: usize, item: T)
         requires { at < length self.old }
@@ -112,6 +124,20 @@ impl<T: Drop> Items<T> {
         ensures { self.new ≡ take len self.old }
     {
         self.items.truncate(len);
+    }
+}
+
+impl<T: Drop> Items<Items<T>> {
+    /// Appends an item to the list at an index that is there; after want of memory all is as before, and the item comes
+    /// back.
+    pub fn offer_at(&mut self, at: usize, item: T) -> Result<(), T>
+        requires { at < length self.old }
+        ensures ok { OnOk result (self.new ≡ slice_set self.old at (slice_index_or self.old at [] ++ item ∷ [])) }
+        ensures err { OnErr result (self.new ≡ self.old) }
+        ensures back { IfErr result (λ back. back ≡ item) }
+    {
+        let list = &mut self.items[at];
+        list.offer(item)
     }
 }
 

@@ -1,14 +1,13 @@
 -- The place of a name among files, and counts beside the files.
-use Rattle.std.proofs.Common.{◌≡◌, ◌≢◌, ℕ, ◌+◌, ◌-◌, ◌^◌, ◌<◌, ◌≤◌, ◌⊎◌, min, Bool, true, false, List, [], length, get_or, set, Some, None, Option, Err, Result, IsSome, sym, ap, ◌∙◌, subst, refl, inl, inr, arith, cond, ltb}
-use Rattle.std.proofs.lemmas.List.{get_or-set_same, get_or-set_other}
+use Rattle.std.proofs.Common.{◌≡◌, ℕ, ◌+◌, ◌-◌, ◌^◌, ◌<◌, ◌≤◌, min, true, false, List, [], length, get_or, set, Some, None, Option, Err, sym, ap, ◌∙◌, subst, refl, inl, inr, arith, cond, ltb}
+use Rattle.std.proofs.lemmas.List.{get_or-set_same, get_or-set_other, get_or_default}
 use Rattle.std.proofs.lemmas.List.Quantifiers.{position-Some}
 use Rattle.std.proofs.lemmas.List.Sums.{position_or_len_is}
 use Rattle.std.proofs.lemmas.Slice.Eq.{bytes_eq-Decides}
 use Rattle.std.proofs.lemmas.Bool.{cases_eq, cases_Bool, lt-ltb}
-use Rattle.std.specs.List.{position, position_or_len}
-use Rattle.std.specs.Str.{bytes_eq}
-use Rattle.bern_ports.specs.Causes.{Rose}
-use Rattle.bern_ports.specs.Files.{Files, is_named, place_of, file_at, bytes_of, AreOnce, BlamesOnly}
+use Rattle.std.specs.Option.{unwrap_or}
+use Rattle.std.specs.List.{position_or_len}
+use Rattle.bern_ports.specs.Files.{Files, is_named, place_of, file_at, AreOnce, BlamesOnly}
 use Rattle.bern_ports.specs.MemShelf.{count_of, count_at}
 
 pub place-Some : (files : Files) (name : List ℕ) (i : ℕ) → place_of files name ≡ Some i → (i < length files) × ((file_at files i).0 ≡ name)
@@ -61,3 +60,12 @@ blames files name i counts e found beside fits =
       others = λ n differs. other_at counts i (place_of files n) (λ same. differs (sym (place-Some files n i same).1 ∙ (place-Some files name i found).1));
       own = λ _. rw (found, get_or-set_same counts i (min (get_or counts i 0 + 1) (2 ^ 64 - 1)) 0 inside) (omega arith);
     }
+
+-- names whose first place is their own stand once
+pub once_from_places : (files : Files) → ((k : ℕ) → k < length files → place_of files (file_at files k).0 ≡ Some k) → AreOnce files
+once_from_places files own i j d before inside same =
+    let first : i < length files = omega (arith, before, inside) in
+    let names : (file_at files i).0 ≡ (file_at files j).0 =
+    ap (λ f. f.0) (get_or_default files i ([], []) d first) ∙ same ∙ ap (λ f. f.0) (get_or_default files j d ([], []) inside) in
+    let places : i ≡ j = ap (λ o. unwrap_or o i) (sym (own i first) ∙ ap (place_of files) names ∙ own j inside) in
+    omega (arith, before, places)

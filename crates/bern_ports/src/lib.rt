@@ -14,7 +14,7 @@ mod sure_sink;
 mod tests;
 
 pub use dir_shelf::DirShelf;
-pub use mem_shelf::MemShelf;
+pub use mem_shelf::{MemShelf, are_once};
 pub use mem_sink::MemSink;
 pub use ports::{Failed, Shelf, Sink};
 pub use std_sink::StdSink;

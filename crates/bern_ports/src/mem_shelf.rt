@@ -1,4 +1,4 @@
-ghost use Rattle.std.specs.Prelude.{◌≡◌, ◌<◌, ◌≤◌, length, replicate, min, Some, IfOk, IsTrue, true, false, ◌==◌, ◌-◌, ◌+◌, slice_index, slice_set, take, drop, ◌++◌, [], ◌^◌, is_err, IsOk, IsSome, OnErr, OnOk, cond};
+ghost use Rattle.std.specs.Prelude.{◌≡◌, ◌↔◌, ◌<◌, ◌≤◌, length, replicate, min, Some, IfOk, IsTrue, true, false, ◌==◌, ◌-◌, ◌+◌, slice_index, slice_set, take, drop, ◌++◌, [], ◌^◌, is_err, IsOk, IsSome, OnErr, OnOk, cond};
 ghost use Rattle.bern_ports.specs.Files.{file_at, place_of, bytes_of, AreOnce, BlamesOnly, StandsAtStart};
 ghost use Rattle.bern_ports.specs.MemShelf.{count_of, counted, one_more, is_listed, is_faulty};
 ghost use Rattle.bern_ports.specs.Causes.{HasCause};
@@ -61,15 +61,36 @@ impl MemShelf {
             offset: 0,
         })
     }
+}
 
-    fn place(&self, name: &Text) -> Option<usize>
-        ensures { result ≡ place_of self.now.files name.now }
-    {
-        self.files
-            .as_slice()
-            .iter()
-            .position(|file| file.0.as_bytes() == name.as_bytes())
+/// The place of the file of that name.
+fn place(files: &Items<(Text, Text)>, name: &Text) -> Option<usize>
+    ensures { result ≡ place_of files.now name.now }
+{
+    files
+        .as_slice()
+        .iter()
+        .position(|file| file.0.as_bytes() == name.as_bytes())
+}
+
+/// Whether the first file of that name is this one.
+fn is_first(files: &Items<(Text, Text)>, at: usize) -> bool
+    requires { at < length files.now }
+    ensures { IsTrue result ↔ (place_of files.now (file_at files.now at).0 ≡ Some at) }
+{
+    place(files, &file_of(files, at).0) == Some(at)
+}
+
+/// Whether no name stands twice.
+pub fn are_once(files: &Items<(Text, Text)>) -> bool
+    ensures { IsTrue result ↔ AreOnce files.now }
+{
+    for at in 0..files.len() {
+        if !is_first(files, at) {
+            return false;
+        }
     }
+    true
 }
 
 /// Whether a call of this number on this name is to fail.
@@ -158,7 +179,7 @@ impl Shelf for MemShelf {
         ensures succeeds { IsTrue (length self.old.fails == 0) → IsSome (bytes_of self.old.files name.now) → IsOk result }
     {
         self.begun = false;
-        match self.place(name) {
+        match place(&self.files, name) {
             None => Err(fault(&mut self.faults)),
             Some(at) => {
                 let call = count_call(&mut self.calls, at);

@@ -40,7 +40,9 @@ fn files_in_memory_are_read_in_pieces_and_listed_calls_fail(rt: HostRuntime) -> 
     let mut fails = Vec::new(alloc);
     fails.push((Text::from_bytes(alloc, b"a")?, 2u64))?;
     let name = Text::from_bytes(alloc, b"a")?;
-    let mut shelf = MemShelf::new(alloc, Items::from_vec(files), 3, Items::from_vec(fails))?;
+    let files = Items::from_vec(files);
+    assert!(rt; are_once(&files));
+    let mut shelf = MemShelf::new(alloc, files, 3, Items::from_vec(fails))?;
     assert_eq!(rt;
         read_through(alloc, &mut shelf, &name, 5)?.as_slice(),
         b"abc!defg".as_slice()

@@ -1,0 +1,4 @@
+use Rattle.bern_top.proofs.lines.write_read_fault.Goals as goal
+
+pub returns-clause-writes : goal.returns-clause-writes
+returns-clause-writes g c = rw (c.as_bytes.ensures.value, c.as_bytes-2.ensures.value) at c.write_pieces.ensures.writes

@@ -1,0 +1,1 @@
+use Rattle.bern_top.proofs.reading.read_on.Goals as goal

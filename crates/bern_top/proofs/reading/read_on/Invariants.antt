@@ -1,0 +1,14 @@
+use Rattle.std.proofs.Common.{◌≡◌, ℕ, ◌+◌, ◌-◌, ◌≤◌, length, IsTrue, IfSome}
+use Rattle.bern_top.specs.Answers.{Stands}
+use Rattle.bern_top.proofs.reading.read_on.Given as goal
+
+abbrev pub invariant-file : goal.invariant-file
+invariant-file g l = record {
+  begun : IsTrue (g.F.Shelf.begun l.shelf);
+  files : g.F.Shelf.files l.shelf ≡ g.F.Shelf.files l.fn.shelf;
+  later : g.F.Shelf.faults l.fn.shelf ≤ g.F.Shelf.faults l.shelf;
+  told : IfSome (g.F.Shelf.files l.fn.shelf) (λ fs. Stands fs l.name l.bytes (g.F.Shelf.left l.shelf));
+}
+
+abbrev pub decreases-file : goal.decreases-file
+decreases-file g l = l.limit + 1 - length l.bytes

@@ -1,0 +1,91 @@
+-- What the top call says of its status, of what was written, and of the faults.
+use Rattle.std.specs.Prelude.{◌≡◌, ℕ, ◌⊎◌, List, Option, IfSome}
+use Rattle.std.specs.Io.KnownBytes.{Appends, Keeps}
+use Rattle.bern_base.specs.declared.refusal.Rule.TheVariants.{U1}
+use Rattle.bern_base.specs.declared.refusal.Refusal.{Refusal}
+use Rattle.bern_base.specs.declared.refusal.Refusal.TheVariants.{Words}
+use Rattle.bern_ports.specs.Causes.{Rose}
+use Rattle.bern_ports.specs.Files.{Files}
+use Rattle.bern_top.specs.declared.load_error.LoadError.{LoadError}
+use Rattle.bern_top.specs.declared.load_error.LoadError.TheVariants as e
+use Rattle.bern_top.specs.Answers.{Port, StopsWithin, HasLine}
+use Rattle.bern_top.specs.Lines.{refusal_line, read_fault_line, write_fault_line, memory_line}
+use Rattle.bern_top.specs.Walk.{Done, Refuses, IsRun, Runs, Comes}
+
+-- no job's run is asked for by these words
+abbrev pub IsNoRun : List (List ℕ) → Type 0
+IsNoRun words = (job : List ℕ) → IsRun words job → ⊥
+
+-- the text that is due for these words
+abbrev pub IsDue : Files → List (List ℕ) → List ℕ → Type 0
+IsDue files words text = (job : List ℕ) × IsRun words job × Runs files job (Done text)
+
+-- the first refusal of these words
+abbrev pub IsRefused : Files → List (List ℕ) → Refusal → Type 0
+IsRefused files words refusal = (IsNoRun words × (refusal ≡ Words U1)) ⊎ ((job : List ℕ) × IsRun words job × Runs files job (Refuses refusal))
+
+-- a name that the run comes to
+abbrev pub IsVisited : Files → List (List ℕ) → List ℕ → Type 0
+IsVisited files words name = (job : List ℕ) × IsRun words job × Comes files job name
+
+abbrev pub IsStatus : ℕ → Type 0
+IsStatus status = (status ≡ 0) ⊎ (status ≡ 2) ⊎ (status ≡ 3) ⊎ (status ≡ 4) ⊎ (status ≡ 5)
+
+-- 0 comes only with the due text, whole on out, and nothing on err
+abbrev pub SaysDone : Option Files → List (List ℕ) → Port → Port → ℕ → Type 0
+SaysDone files words out err status = status ≡ 0 → IfSome files (λ fs. (text : List ℕ) × IsDue fs words text × Appends out.old out.new text) × Keeps err.old err.new
+
+-- 2 comes only with the first refusal, with its line on err and nothing on out
+abbrev pub SaysRefused : Option Files → List (List ℕ) → Port → Port → ℕ → Type 0
+SaysRefused files words out err status =
+    status ≡ 2 → Keeps out.old out.new × ((refusal : Refusal) × IfSome files (λ fs. IsRefused fs words refusal) × HasLine err (refusal_line refusal))
+
+-- refused words are refused, whatever fails
+abbrev pub SaysWords : List (List ℕ) → Port → Port → ℕ → Type 0
+SaysWords words out err status = IsNoRun words → (status ≡ 2) × Keeps out.old out.new × HasLine err (refusal_line (Words U1))
+
+-- 3 comes only where the shelf's count rose, with a name that the run comes to, and nothing on out
+abbrev pub SaysReadFault : Option Files → List (List ℕ) → ℕ → ℕ → Port → Port → ℕ → Type 0
+SaysReadFault files words before now out err status =
+    status ≡ 3 → Rose before now × Keeps out.old out.new × ((name : List ℕ) × IfSome files (λ fs. IsVisited fs words name) × HasLine err (read_fault_line name))
+
+-- 4 comes only with the due text, a part of it from its front on out, and where out's count rose
+abbrev pub SaysWriteFault : Option Files → List (List ℕ) → Port → Port → ℕ → Type 0
+SaysWriteFault files words out err status =
+    status ≡ 4 → Rose out.before out.now × IfSome files (λ fs. (text : List ℕ) × IsDue fs words text × StopsWithin out text) × HasLine err write_fault_line
+
+-- 5 is want of memory, with nothing on out
+abbrev pub SaysMemory : Port → Port → ℕ → Type 0
+SaysMemory out err status = status ≡ 5 → Keeps out.old out.new × HasLine err memory_line
+
+-- where a text is due and no count rose, it is done or memory was short
+abbrev pub SaysDue : Option Files → List (List ℕ) → ℕ → ℕ → Port → ℕ → Type 0
+SaysDue files words before now out status =
+    IfSome files (λ fs. (text : List ℕ) → IsDue fs words text → (Rose before now → ⊥) → (Rose out.before out.now → ⊥) → (status ≡ 0) ⊎ (status ≡ 5))
+
+-- where something is refused and the shelf's count did not rise, it is refused with its line, or memory was short
+abbrev pub SaysRefusal : Option Files → List (List ℕ) → ℕ → ℕ → Port → ℕ → Type 0
+SaysRefusal files words before now err status =
+    IfSome files (λ fs. (refusal : Refusal) → IsRefused fs words refusal → (Rose before now → ⊥) → ((status ≡ 2) × HasLine err (refusal_line refusal)) ⊎ (status ≡ 5))
+
+pub record Says (files : Option Files) (words : List (List ℕ)) (before now : ℕ) (out err : Port) (status : ℕ) : Type 0 where
+  pub known : IsStatus status
+  pub done : SaysDone files words out err status
+  pub refused : SaysRefused files words out err status
+  pub words_refused : SaysWords words out err status
+  pub read_fault : SaysReadFault files words before now out err status
+  pub write_fault : SaysWriteFault files words out err status
+  pub memory : SaysMemory out err status
+  pub due : SaysDue files words before now out status
+  pub refusal : SaysRefusal files words before now err status
+
+-- the writing of a text: done, or stopped with its line
+abbrev pub PrintsText : Port → Port → List ℕ → ℕ → Type 0
+PrintsText out err text status =
+    ((status ≡ 0) × Appends out.old out.new text × Keeps err.old err.new) ⊎ ((status ≡ 4) × StopsWithin out text × HasLine err write_fault_line)
+
+-- the answer for why there is no text
+abbrev pub TellsFault : Port → LoadError → ℕ → Type 0
+TellsFault err (e.Refused refusal) status = (status ≡ 2) × HasLine err (refusal_line refusal)
+TellsFault err (e.ReadFault file) status = (status ≡ 3) × HasLine err (read_fault_line file)
+TellsFault err e.NoMemory status = (status ≡ 5) × HasLine err memory_line

@@ -1,0 +1,14 @@
+pub mod LineLemmas
+pub mod NumberLemmas
+pub mod PlaceLemmas
+pub mod TokenLemmas
+pub mod StopLemmas
+pub mod ListLemmas
+pub mod SumLemmas
+pub mod ExpressionLemmas
+pub mod NestLemmas
+pub mod FormLemmas
+pub mod OffsetLemmas
+pub mod WordLemmas
+pub mod LevelLemmas
+pub mod JobLemmas

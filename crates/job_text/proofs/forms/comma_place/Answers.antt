@@ -1,0 +1,14 @@
+use Rattle.std.proofs.Common.{rules, ap, ◌∙◌, length, unwrap_or, tests}
+use Rattle.std.proofs.lemmas.Iterator.{YieldsList-from_slice}
+use Rattle.std.proofs.lemmas.Iterator.Search.{position_from_yields_List}
+use Rattle.std.proofs.lemmas.List.Sums.{prefix_len-le-length}
+use Rattle.std.specs.List.{position_or_len}
+use Rattle.job_text.specs.WordReading.{is_comma}
+use Rattle.job_text.proofs.PlaceLemmas.{place_or_end}
+use Rattle.job_text.proofs.forms.comma_place.Goals as goal
+
+pub returns : goal.returns
+returns c =
+    let text = c.args.word.now in
+    let found = position_from_yields_List (is_comma) _ _ c.position.result c.position.ensures.ran (YieldsList-from_slice text cc) (λ x b q k. search (rules, tests)) in
+    c.unwrap_or.ensures ∙ ap (λ o. unwrap_or o (length text)) found ∙ place_or_end (position_or_len (is_comma) text) (length text) (prefix_len-le-length _ text)

@@ -1,0 +1,10 @@
+pub mod Forms
+pub mod Grammar
+pub mod Job
+pub mod Lines
+pub mod Marks
+pub mod Names
+pub mod NestReading
+pub mod Reading
+pub mod Tokens
+pub mod WordReading

@@ -1,0 +1,90 @@
+ghost use Rattle.std.specs.Prelude.{◌≡◌, ◌<◌, ◌↔◌, true, length, OnOk, IfOk, IsErrOf};
+ghost use Rattle.job_text.specs.Lines.{said, is_some_text};
+ghost use Rattle.job_text.specs.Job.{HasNoForm, IsJob, AddsLine, HasOneForm, HasOneMeaning};
+
+use crate::line_forms::line_form;
+use crate::lines::{is_some_text, lines, said};
+use crate::stop::Stop;
+use bern_base::{Items, JobLine, JobText, NoMemory};
+use std::alloc::Global;
+use thiserror::Error;
+
+/// How many bytes a job text may have.
+const LIMIT: usize = 1_048_576;
+
+/// Why a job text was not read.
+#[derive(Clone, Copy, Debug, PartialEq, Eq, Error)]
+pub enum JobError {
+    #[error("the job has more than 1048576 bytes")]
+    TooLong,
+    #[error("out of memory")]
+    NoMemory,
+}
+
+/// Reads a job text: the forms of its lines up to the first line that has none, and that line's number.
+///
+/// Lines count from 1; those that say nothing are left out. A line without a form is no error: its number is `broken`.
+pub fn read_job(alloc: Global, bytes: &[u8]) -> Result<JobText, JobError>
+    ensures job { IfOk result (λ job. IsJob bytes.now job) }
+    ensures too_long { IsErrOf result JobError.TooLong ↔ (1048576 < length bytes.now) }
+{
+    if bytes.len() > LIMIT {
+        return Err(JobError::TooLong);
+    }
+    match read_lines(alloc, bytes) {
+        Ok(job) => Ok(job),
+        Err(_) => Err(JobError::NoMemory),
+    }
+}
+
+/// The law that the grammar gives a text one form at most. It does nothing.
+pub fn a_text_has_one_form()
+    ensures { HasOneForm }
+{}
+
+/// The law that bytes have one meaning as a job. It does nothing.
+pub fn bytes_have_one_meaning()
+    ensures { HasOneMeaning }
+{}
+
+fn read_lines(alloc: Global, bytes: &[u8]) -> Result<JobText, NoMemory>
+    ensures { IfOk result (λ job. IsJob bytes.now job) }
+{
+    let texts = lines(alloc, bytes)?;
+    let mut forms = Items::new(alloc);
+    let mut number: u64 = 1;
+    for line in &texts {
+        match add_line(alloc, &mut forms, number, line.bytes()) {
+            Ok(()) => number += 1,
+            Err(Stop::NoForm) => {
+                return Ok(JobText {
+                    lines: forms,
+                    broken: Some(number),
+                });
+            }
+            Err(Stop::NoMemory) => return Err(NoMemory),
+        }
+    }
+    Ok(JobText {
+        lines: forms,
+        broken: None,
+    })
+}
+
+/// Adds the form of a line, or nothing where the line says nothing.
+fn add_line(alloc: Global, forms: &mut Items<JobLine>, number: u64, line: &[u8]) -> Result<(), Stop>
+    ensures ok { OnOk result (AddsLine number (said line.now) forms.old forms.new) }
+    ensures none { IsErrOf result Stop.NoForm → (forms.new ≡ forms.old) × (is_some_text (said line.now) ≡ true) × HasNoForm (said line.now) }
+{
+    let text = said(line);
+    if !is_some_text(text) {
+        return Ok(());
+    }
+    match line_form(alloc, text) {
+        Ok(form) => {
+            forms.push(JobLine { number, form })?;
+            Ok(())
+        }
+        Err(stop) => Err(stop),
+    }
+}

@@ -1,0 +1,172 @@
+ghost use Rattle.std.specs.Prelude.{◌≡◌, ◌<◌, ◌≤◌, Some, option_map, length, IfOk, IfSome};
+ghost use Rattle.job_text.specs.NestReading.{item_at, items_at, sign_at, first_sign, sum_at, second_at, subs_at, closed_at, ref_at};
+ghost use Rattle.job_text.specs.Reading.{Gives, seen};
+
+use crate::stop::Stop;
+use crate::tokens::{Mark, Token};
+use bern_base::{Items, RawItem, RawRef, RawSum, Text};
+use std::alloc::Global;
+
+/// How many items a sum may have.
+const ITEMS: u32 = 8;
+/// One above the largest number of a sum.
+const LIMIT: u64 = 4_294_967_296;
+
+/// An array's name and its subscripts in brackets.
+#[tactic(auto, unfolding(crate::specs::NestReading::ref_at))]
+pub(crate) fn reference<'a>(
+    alloc: Global,
+    tokens: &'a [Token],
+) -> Result<(RawRef, &'a [Token]), Stop>
+    ensures value { Gives seen result (ref_at tokens.now) }
+    ensures shorter { IfOk result (λ p. length p.1.now < length tokens.now) }
+{
+    match tokens {
+        [Token::Name(name), Token::Mark(Mark::Open), rest @ ..] => {
+            let (subs, rest) = subscripts(alloc, rest)?;
+            match rest {
+                [Token::Mark(Mark::Close), rest @ ..] => {
+                    let name = Text::from_bytes(alloc, name.as_bytes())?;
+                    Ok((RawRef { name, subs }, rest))
+                }
+                _ => Err(Stop::NoForm),
+            }
+        }
+        _ => Err(Stop::NoForm),
+    }
+}
+
+/// One subscript, or two with a comma between them.
+#[tactic(auto, unfolding(crate::specs::NestReading::subs_at))]
+fn subscripts<'a>(alloc: Global, tokens: &'a [Token]) -> Result<(Items<RawSum>, &'a [Token]), Stop>
+    ensures value { Gives seen result (subs_at tokens.now) }
+    ensures shorter { IfOk result (λ p. length p.1.now < length tokens.now) }
+{
+    let (row, rest) = sum(alloc, tokens)?;
+    let mut subs = Items::from_vec(Vec::with_capacity(alloc, 1)?);
+    subs.push(row)?;
+    match rest {
+        [Token::Mark(Mark::Comma), rest @ ..] => {
+            let (col, rest) = sum(alloc, rest)?;
+            subs.push(col)?;
+            Ok((subs, rest))
+        }
+        _ => Ok((subs, rest)),
+    }
+}
+
+/// A sum of at most 8 items.
+#[tactic(auto, unfolding(crate::specs::NestReading::sum_at))]
+pub(crate) fn sum<'a>(alloc: Global, tokens: &'a [Token]) -> Result<(RawSum, &'a [Token]), Stop>
+    ensures value { Gives seen result (sum_at tokens.now) }
+    ensures shorter { IfOk result (λ p. length p.1.now < length tokens.now) }
+{
+    let (minus, rest) = first_sign(tokens);
+    let (items, rest) = items(alloc, minus, rest)?;
+    Ok((RawSum { items }, rest))
+}
+
+/// The items of a sum, the first with this sign.
+fn items<'a>(
+    alloc: Global,
+    minus: bool,
+    tokens: &'a [Token],
+) -> Result<(Items<RawItem>, &'a [Token]), Stop>
+    ensures value { Gives seen result (items_at minus tokens.now) }
+    ensures shorter { IfOk result (λ p. length p.1.now < length tokens.now) }
+{
+    let mut items = Items::from_vec(Vec::with_capacity(alloc, 1)?);
+    let mut minus = minus;
+    let mut rest = tokens;
+    for _ in 0..ITEMS {
+        let (item, after) = item(alloc, minus, rest)?;
+        items.push(item)?;
+        match next_sign(after) {
+            Some((sign, next)) => {
+                minus = sign;
+                rest = next;
+            }
+            None => return Ok((items, after)),
+        }
+    }
+    Err(Stop::NoForm)
+}
+
+/// A number, a multiple of a name, or a name alone.
+#[tactic(auto, unfolding(crate::specs::NestReading::item_at))]
+fn item<'a>(alloc: Global, minus: bool, tokens: &'a [Token]) -> Result<(RawItem, &'a [Token]), Stop>
+    ensures value { Gives seen result (item_at minus tokens.now) }
+    ensures shorter { IfOk result (λ p. length p.1.now < length tokens.now) }
+{
+    match tokens {
+        [
+            Token::Num(number),
+            Token::Mark(Mark::Star),
+            Token::Name(name),
+            rest @ ..,
+        ] => {
+            if *number < LIMIT {
+                let name = Text::from_bytes(alloc, name.as_bytes())?;
+                Ok((
+                    RawItem {
+                        minus,
+                        number: *number,
+                        name: Some(name),
+                    },
+                    rest,
+                ))
+            } else {
+                Err(Stop::NoForm)
+            }
+        }
+        [Token::Num(number), rest @ ..] => {
+            if *number < LIMIT {
+                Ok((
+                    RawItem {
+                        minus,
+                        number: *number,
+                        name: None,
+                    },
+                    rest,
+                ))
+            } else {
+                Err(Stop::NoForm)
+            }
+        }
+        [Token::Name(name), rest @ ..] => {
+            let name = Text::from_bytes(alloc, name.as_bytes())?;
+            Ok((
+                RawItem {
+                    minus,
+                    number: 1,
+                    name: Some(name),
+                },
+                rest,
+            ))
+        }
+        _ => Err(Stop::NoForm),
+    }
+}
+
+/// Whether a minus begins a sum, and what follows it.
+pub(crate) fn first_sign(tokens: &[Token]) -> (bool, &[Token])
+    ensures value { seen result ≡ first_sign tokens.now }
+    ensures shorter { length result.1.now ≤ length tokens.now }
+{
+    match tokens {
+        [Token::Mark(Mark::Minus), rest @ ..] => (true, rest),
+        _ => (false, tokens),
+    }
+}
+
+/// The sign that joins the next part of a sum: whether it is a minus, and what follows it.
+pub(crate) fn next_sign(tokens: &[Token]) -> Option<(bool, &[Token])>
+    ensures value { option_map seen result ≡ sign_at tokens.now }
+    ensures shorter { IfSome result (λ p. length p.1.now < length tokens.now) }
+{
+    match tokens {
+        [Token::Mark(Mark::Minus), rest @ ..] => Some((true, rest)),
+        [Token::Mark(Mark::Plus), rest @ ..] => Some((false, rest)),
+        _ => None,
+    }
+}

@@ -1,0 +1,11 @@
+pub mod EndLemmas
+pub mod KnownLemmas
+pub mod ListLemmas
+pub mod NewLemmas
+pub mod NodeKept
+pub mod NodeLemmas
+pub mod PositionLemmas
+pub mod SetLemmas
+pub mod SourceLemmas
+pub mod SumLemmas
+pub mod WorkLemmas

@@ -1,0 +1,10 @@
+use Rattle.std.proofs.Common.{subst, sym}
+use Rattle.rank_node.specs.declared.stage.Stage.TheVariants.{Done}
+use Rattle.rank_node.proofs.WorkLemmas.{outer_leaves, after_work, worked_kept}
+use Rattle.rank_node.specs.NodeStates.{IsNode}
+use Rattle.rank_node.proofs.node.Node.sum_outer.Goals as goal
+
+pub returns-clause-node : goal.returns-clause-node
+returns-clause-node g c =
+    let n = c.args.self.now in
+    rw c.set.ensures (worked_kept g.run n _ n.asks n.sums Done Done c.requires.0 (outer_leaves g.run n c.in-Ok.values c.requires.0 c.requires.1 c.in-Ok.ensures))

@@ -1,0 +1,40 @@
+/// Where a rank stands in its script.
+#[derive(Clone, Copy, Debug, PartialEq, Eq)]
+pub enum Stage {
+    /// It has still to find what it needs.
+    Inspect,
+    /// It posts its Request to this rank.
+    Request {
+        to: u32,
+    },
+    AwaitRequests,
+    /// It posts values to this rank.
+    Values {
+        to: u32,
+    },
+    /// It has still to sum over the points that need no other rank.
+    Inner,
+    AwaitValues,
+    /// It has still to sum over the other points, and to apply the sums.
+    Outer,
+    Done,
+}
+
+/// What a rank does next.
+#[derive(Clone, Copy, Debug, PartialEq, Eq)]
+pub enum Want {
+    Work,
+    Post {
+        to: u32,
+    },
+    /// It waits for a letter that it has not taken.
+    Letter,
+    Done,
+}
+
+/// How many letters, and values in them, were posted to a rank.
+#[derive(Clone, Copy, Debug, PartialEq, Eq)]
+pub struct Tally {
+    pub letters: u64,
+    pub values: u64,
+}
