@@ -6,7 +6,7 @@ use Rattle.bern_ports.specs.Causes.{Rose}
 use Rattle.bern_ports.specs.Files.{Files, bytes_of}
 use Rattle.bern_top.specs.declared.load_error.LoadError.{LoadError}
 use Rattle.bern_top.specs.declared.load_error.LoadError.TheVariants as e
-use Rattle.bern_top.specs.Answers.{EndsOnly, Agrees, RoseAtFault, HasFaultCause, IsFaultAt, IsRefusalOf, IsOnly}
+use Rattle.bern_top.specs.Answers.{EndsOnly, Agrees, BlamesOne, IsBlamed, RoseAtFault, HasFaultCause, IsFaultAt, IsRefusalOf, IsOnly}
 use Rattle.bern_top.specs.Walk.{Ending, Done, Refuses, Absent, Reads, Spells}
 
 -- nothing is spelled: the refusal
@@ -83,3 +83,14 @@ told_both told now P Q R same both first second = with_both told P Q R both firs
     with_both : {X : Type 0} (o : Option X) (P Q R : X → Type 0) → ((x : X) → P x → Q x → R x) → IfSome o P → IfSome o Q → IfSome o R
     with_both None P Q R both first second = tt
     with_both (Some x) P Q R both first second = both x first second
+
+-- counts by name over two calls, where the first leaves all
+is_blamed_before : (fs : Files) (k m n : List ℕ → ℕ) (file : List ℕ) → ((x : List ℕ) → m x ≡ k x) → IsBlamed fs m n file → IsBlamed fs k n file
+is_blamed_before fs k m n file same blamed =
+    (λ there. subst (λ c. Rose c (n file)) (same file) (blamed.0 there), λ x other. blamed.1 x other ∙ same x)
+
+pub blames_before : {T : Type 0} (fs : Files) (k m n : List ℕ → ℕ) (result : Result T LoadError) → ((x : List ℕ) → m x ≡ k x) → BlamesOne m n result fs → BlamesOne k n result fs
+blames_before fs k m n (Ok x) same blames = λ y. blames y ∙ same y
+blames_before fs k m n (Err (e.Refused r)) same blames = λ y. blames y ∙ same y
+blames_before fs k m n (Err (e.ReadFault file)) same blames = is_blamed_before fs k m n file same blames
+blames_before fs k m n (Err e.NoMemory) same blames = tt

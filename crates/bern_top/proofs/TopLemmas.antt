@@ -7,9 +7,9 @@ use Rattle.bern_ports.specs.Causes.{Rose}
 use Rattle.bern_ports.specs.Files.{Files}
 use Rattle.bern_top.specs.declared.load_error.LoadError.{LoadError}
 use Rattle.bern_top.specs.declared.load_error.LoadError.TheVariants as e
-use Rattle.bern_top.specs.Answers.{Port, EndsOnly, Agrees, RoseAtFault, HasLine}
+use Rattle.bern_top.specs.Answers.{Port, EndsOnly, Agrees, BlamesOne, IsBlamed, RoseAtFault, HasLine}
 use Rattle.bern_top.specs.Lines.{refusal_line}
-use Rattle.bern_top.specs.Top.{IsNoRun, IsDue, IsRefused, IsVisited, Says, TellsFault}
+use Rattle.bern_top.specs.Top.{Faults, IsNoRun, IsDue, IsRefused, IsVisited, IsFaultOf, IsCalm, Says, TellsFault}
 use Rattle.bern_top.specs.Walk.{Ending, Done, Refuses, Absent, IsRun, Runs, Comes}
 use Rattle.bern_top.proofs.WritingLemmas.{port}
 use Rattle.bern_top.proofs.JobLemmas.{if_some_weaker}
@@ -46,7 +46,11 @@ pub for_all : {X : Type 0} (o : Option X) (P : X → Type 0) → ((x : X) → P 
 for_all None P all = tt
 for_all (Some x) P all = all x
 
-says_refused : (files : Option Files) (words : List (List ℕ)) (job : List ℕ) (before now : ℕ) (held : Option (List ℕ)) (count : ℕ) (err : Port) (status : ℕ) (r : Refusal) → IsRun words job
+if_some_both : {X : Type 0} (o : Option X) (P Q : X → Type 0) → IfSome o P → IfSome o Q → IfSome o (λ x. P x × Q x)
+if_some_both None P Q first second = tt
+if_some_both (Some x) P Q first second = (first, second)
+
+says_refused : (files : Option Files) (words : List (List ℕ)) (job : List ℕ) (before now : Faults) (held : Option (List ℕ)) (count : ℕ) (err : Port) (status : ℕ) (r : Refusal) → IsRun words job
     → IfSome files (λ fs. EndsOnly (Runs fs job) (Refuses r)) → status ≡ 2 → HasLine err (refusal_line r) → Says files words before now (port held held count count) err status
 says_refused files words job before now held count err status r run told is line = record {
   known = inr (inl is);
@@ -61,21 +65,28 @@ says_refused files words job before now held count err status r run told is line
       (λ fs ends other refused calm. inl (is, subst (λ t. HasLine err (refusal_line t)) (sym (only_refusal fs words job r run ends other refused)) line)) told;
 }
 
-says_read_fault : (files : Option Files) (words : List (List ℕ)) (job : List ℕ) (before now : ℕ) (held : Option (List ℕ)) (count : ℕ) (err : Port) (status : ℕ) (name : List ℕ) → IsRun words job
-    → IfSome files (λ fs. Comes fs job name) → Rose before now → TellsFault err (e.ReadFault name) status → Says files words before now (port held held count count) err status
+-- a fault with its cause, so the shelf is not calm
+not_calm : (files : Files) (words : List (List ℕ)) (before now : Faults) (name : List ℕ) → IsFaultOf files words before now name → Rose before.total now.total → IsCalm files words before now → ⊥
+not_calm files words before now name fault rose (inl none) = none rose
+not_calm files words before now name fault rose (inr calm) = let still = calm name fault.0 in still.1 (fault.1.0 still.0)
+
+says_read_fault : (files : Option Files) (words : List (List ℕ)) (job : List ℕ) (before now : Faults) (held : Option (List ℕ)) (count : ℕ) (err : Port) (status : ℕ) (name : List ℕ) → IsRun words job
+    → IfSome files (λ fs. Comes fs job name × IsBlamed fs before.by_name now.by_name name) → Rose before.total now.total → TellsFault err (e.ReadFault name) status → Says files words before now (port held held count count) err status
 says_read_fault files words job before now held count err status name run told rose tells = record {
   known = inr (inr (inl tells.0));
   done = λ other. absurd (omega (arith, tells.0, other));
   refused = λ other. absurd (omega (arith, tells.0, other));
   words_refused = λ none. absurd (none job run);
-  read_fault = λ _. (rose, Keeps-refl held, (name, if_some_weaker files (λ fs. Comes fs job name) (λ fs. IsVisited fs words name) (λ fs comes. (job, run, comes)) told, tells.1));
+  read_fault = λ _. (rose, Keeps-refl held, (name, if_some_weaker files (λ fs. Comes fs job name × IsBlamed fs before.by_name now.by_name name) (λ fs. IsFaultOf fs words before now name) (λ fs fault. ((job, run, fault.0), fault.1)) told, tells.1));
   write_fault = λ other. absurd (omega (arith, tells.0, other));
   memory = λ other. absurd (omega (arith, tells.0, other));
-  due = if_some_weaker files (λ fs. Comes fs job name) _ (λ fs comes text due calm dry. absurd (calm rose)) told;
-  refusal = if_some_weaker files (λ fs. Comes fs job name) _ (λ fs comes r refused calm. absurd (calm rose)) told;
+  due = if_some_weaker files (λ fs. Comes fs job name × IsBlamed fs before.by_name now.by_name name) _
+      (λ fs fault text due calm dry. absurd (not_calm fs words before now name ((job, run, fault.0), fault.1) rose calm)) told;
+  refusal = if_some_weaker files (λ fs. Comes fs job name × IsBlamed fs before.by_name now.by_name name) _
+      (λ fs fault r refused calm. absurd (not_calm fs words before now name ((job, run, fault.0), fault.1) rose calm)) told;
 }
 
-says_memory : (files : Option Files) (words : List (List ℕ)) (job : List ℕ) (before now : ℕ) (held : Option (List ℕ)) (count : ℕ) (err : Port) (status : ℕ) → IsRun words job
+says_memory : (files : Option Files) (words : List (List ℕ)) (job : List ℕ) (before now : Faults) (held : Option (List ℕ)) (count : ℕ) (err : Port) (status : ℕ) → IsRun words job
     → TellsFault err e.NoMemory status → Says files words before now (port held held count count) err status
 says_memory files words job before now held count err status run tells = record {
   known = inr (inr (inr (inr tells.0)));
@@ -89,11 +100,11 @@ says_memory files words job before now held count err status run tells = record 
   refusal = for_all files _ (λ fs r refused calm. inr tells.0);
 }
 
-pub says_fault : (files : Option Files) (words : List (List ℕ)) (job : List ℕ) (before now : ℕ) (held : Option (List ℕ)) (count : ℕ) (err : Port) (status : ℕ) (fault : LoadError) → IsRun words job
-    → IfSome files (λ fs. Agrees (Runs fs job) (Comes fs job) (Err fault)) → RoseAtFault {T = List ℕ} before now (Err fault) → TellsFault err fault status → Says files words before now (port held held count count) err status
-says_fault files words job before now held count err status (e.Refused r) run told rose tells = says_refused files words job before now held count err status r run told tells.0 tells.1
-says_fault files words job before now held count err status (e.ReadFault name) run told rose tells = says_read_fault files words job before now held count err status name run told rose tells
-says_fault files words job before now held count err status e.NoMemory run told rose tells = says_memory files words job before now held count err status run tells
+pub says_fault : (files : Option Files) (words : List (List ℕ)) (job : List ℕ) (before now : Faults) (held : Option (List ℕ)) (count : ℕ) (err : Port) (status : ℕ) (fault : LoadError) → IsRun words job
+    → IfSome files (λ fs. Agrees (Runs fs job) (Comes fs job) (Err fault)) → IfSome files (BlamesOne {T = List ℕ} before.by_name now.by_name (Err fault)) → RoseAtFault {T = List ℕ} before.total now.total (Err fault) → TellsFault err fault status → Says files words before now (port held held count count) err status
+says_fault files words job before now held count err status (e.Refused r) run told blame rose tells = says_refused files words job before now held count err status r run told tells.0 tells.1
+says_fault files words job before now held count err status (e.ReadFault name) run told blame rose tells = says_read_fault files words job before now held count err status name run (if_some_both files (λ fs. Comes fs job name) (λ fs. IsBlamed fs before.by_name now.by_name name) told blame) rose tells
+says_fault files words job before now held count err status e.NoMemory run told blame rose tells = says_memory files words job before now held count err status run tells
 
 -- three words and no more
 pub three : {X : Type 0} (ws : List X) (a b c : X) → length ws ≡ 3 → a ≡ get_or ws 0 a → b ≡ get_or ws 1 b → c ≡ get_or ws 2 c → ws ≡ a ∷ b ∷ c ∷ []

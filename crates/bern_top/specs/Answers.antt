@@ -1,5 +1,5 @@
 -- What the answers of calls say of the run, of the shelf and of the sinks.
-use Rattle.std.specs.Prelude.{◌≡◌, ◌≢◌, ℕ, ◌<◌, ◌≤◌, ◌⊎◌, List, [], ◌++◌, length, Option, Some, None, Ok, Err, ⊤}
+use Rattle.std.specs.Prelude.{◌≡◌, ◌≢◌, ℕ, ◌<◌, ◌≤◌, ◌⊎◌, List, [], ◌++◌, length, Option, Some, None, Ok, Err, IsSome, ⊤}
 use Rattle.std.specs.Io.KnownBytes.{Appends}
 use Rattle.std.specs.declared.result.Result.{Result}
 use Rattle.bern_base.specs.declared.matrix.Entry.{Entry}
@@ -37,6 +37,17 @@ RoseAtFault before now (Err e.NoMemory) = ⊤
 pub record HasFaultCause {T : Type 0} (before now : ℕ) (result : Result T LoadError) : Type 0 where
   pub later : before ≤ now
   pub fault : RoseAtFault before now result
+
+-- the blame for a fault: where the file is there its count rose, and no other name's count changed
+abbrev pub IsBlamed : Files → (List ℕ → ℕ) → (List ℕ → ℕ) → List ℕ → Type 0
+IsBlamed files before now file = (IsSome (bytes_of files file) → Rose (before file) (now file)) × ((n : List ℕ) → n ≢ file → now n ≡ before n)
+
+-- the counts by name over a call: a fault has its blame, and without one no count changed; want of memory is free
+abbrev pub BlamesOne : {T : Type 0} → (List ℕ → ℕ) → (List ℕ → ℕ) → Result T LoadError → Files → Type 0
+BlamesOne before now (Ok x) files = (n : List ℕ) → now n ≡ before n
+BlamesOne before now (Err (e.Refused refusal)) files = (n : List ℕ) → now n ≡ before n
+BlamesOne before now (Err (e.ReadFault file)) files = IsBlamed files before now file
+BlamesOne before now (Err e.NoMemory) files = ⊤
 
 -- a fault at this file, or want of memory
 abbrev pub IsFaultAt : List ℕ → LoadError → Type 0

@@ -1,14 +1,14 @@
 -- What the top call says of its status, of what was written, and of the faults.
-use Rattle.std.specs.Prelude.{◌≡◌, ℕ, ◌⊎◌, List, Option, IfSome}
+use Rattle.std.specs.Prelude.{◌≡◌, ℕ, ◌⊎◌, List, Option, IsSome, IfSome}
 use Rattle.std.specs.Io.KnownBytes.{Appends, Keeps}
 use Rattle.bern_base.specs.declared.refusal.Rule.TheVariants.{U1}
 use Rattle.bern_base.specs.declared.refusal.Refusal.{Refusal}
 use Rattle.bern_base.specs.declared.refusal.Refusal.TheVariants.{Words}
 use Rattle.bern_ports.specs.Causes.{Rose}
-use Rattle.bern_ports.specs.Files.{Files}
+use Rattle.bern_ports.specs.Files.{Files, bytes_of}
 use Rattle.bern_top.specs.declared.load_error.LoadError.{LoadError}
 use Rattle.bern_top.specs.declared.load_error.LoadError.TheVariants as e
-use Rattle.bern_top.specs.Answers.{Port, StopsWithin, HasLine}
+use Rattle.bern_top.specs.Answers.{IsBlamed, Port, StopsWithin, HasLine}
 use Rattle.bern_top.specs.Lines.{refusal_line, read_fault_line, write_fault_line, memory_line}
 use Rattle.bern_top.specs.Walk.{Done, Refuses, IsRun, Runs, Comes}
 
@@ -24,9 +24,23 @@ IsDue files words text = (job : List ℕ) × IsRun words job × Runs files job (
 abbrev pub IsRefused : Files → List (List ℕ) → Refusal → Type 0
 IsRefused files words refusal = (IsNoRun words × (refusal ≡ Words U1)) ⊎ ((job : List ℕ) × IsRun words job × Runs files job (Refuses refusal))
 
+-- the counts of a shelf's faults: of all calls, and of those on each name
+pub record Faults : Type 0 where
+  pub total : ℕ
+  pub by_name : List ℕ → ℕ
+
 -- a name that the run comes to
 abbrev pub IsVisited : Files → List (List ℕ) → List ℕ → Type 0
 IsVisited files words name = (job : List ℕ) × IsRun words job × Comes files job name
+
+-- a fault at this name has its cause: the run comes to it, it is not there or its count rose, and no other name's count changed
+abbrev pub IsFaultOf : Files → List (List ℕ) → Faults → Faults → List ℕ → Type 0
+IsFaultOf files words before now name = IsVisited files words name × IsBlamed files before.by_name now.by_name name
+
+-- no call failed, or each file that the run comes to is there and its count did not rise
+abbrev pub IsCalm : Files → List (List ℕ) → Faults → Faults → Type 0
+IsCalm files words before now =
+    (Rose before.total now.total → ⊥) ⊎ ((name : List ℕ) → IsVisited files words name → IsSome (bytes_of files name) × (Rose (before.by_name name) (now.by_name name) → ⊥))
 
 abbrev pub IsStatus : ℕ → Type 0
 IsStatus status = (status ≡ 0) ⊎ (status ≡ 2) ⊎ (status ≡ 3) ⊎ (status ≡ 4) ⊎ (status ≡ 5)
@@ -44,10 +58,10 @@ SaysRefused files words out err status =
 abbrev pub SaysWords : List (List ℕ) → Port → Port → ℕ → Type 0
 SaysWords words out err status = IsNoRun words → (status ≡ 2) × Keeps out.old out.new × HasLine err (refusal_line (Words U1))
 
--- 3 comes only where the shelf's count rose, with a name that the run comes to, and nothing on out
-abbrev pub SaysReadFault : Option Files → List (List ℕ) → ℕ → ℕ → Port → Port → ℕ → Type 0
+-- 3 comes only where the shelf's count rose, with a name at which the fault has its cause, and nothing on out
+abbrev pub SaysReadFault : Option Files → List (List ℕ) → Faults → Faults → Port → Port → ℕ → Type 0
 SaysReadFault files words before now out err status =
-    status ≡ 3 → Rose before now × Keeps out.old out.new × ((name : List ℕ) × IfSome files (λ fs. IsVisited fs words name) × HasLine err (read_fault_line name))
+    status ≡ 3 → Rose before.total now.total × Keeps out.old out.new × ((name : List ℕ) × IfSome files (λ fs. IsFaultOf fs words before now name) × HasLine err (read_fault_line name))
 
 -- 4 comes only with the due text, a part of it from its front on out, and where out's count rose
 abbrev pub SaysWriteFault : Option Files → List (List ℕ) → Port → Port → ℕ → Type 0
@@ -58,17 +72,17 @@ SaysWriteFault files words out err status =
 abbrev pub SaysMemory : Port → Port → ℕ → Type 0
 SaysMemory out err status = status ≡ 5 → Keeps out.old out.new × HasLine err memory_line
 
--- where a text is due and no count rose, it is done or memory was short
-abbrev pub SaysDue : Option Files → List (List ℕ) → ℕ → ℕ → Port → ℕ → Type 0
+-- where a text is due, the shelf is calm and out's count did not rise, it is done or memory was short
+abbrev pub SaysDue : Option Files → List (List ℕ) → Faults → Faults → Port → ℕ → Type 0
 SaysDue files words before now out status =
-    IfSome files (λ fs. (text : List ℕ) → IsDue fs words text → (Rose before now → ⊥) → (Rose out.before out.now → ⊥) → (status ≡ 0) ⊎ (status ≡ 5))
+    IfSome files (λ fs. (text : List ℕ) → IsDue fs words text → IsCalm fs words before now → (Rose out.before out.now → ⊥) → (status ≡ 0) ⊎ (status ≡ 5))
 
--- where something is refused and the shelf's count did not rise, it is refused with its line, or memory was short
-abbrev pub SaysRefusal : Option Files → List (List ℕ) → ℕ → ℕ → Port → ℕ → Type 0
+-- where something is refused and the shelf is calm, it is refused with its line, or memory was short
+abbrev pub SaysRefusal : Option Files → List (List ℕ) → Faults → Faults → Port → ℕ → Type 0
 SaysRefusal files words before now err status =
-    IfSome files (λ fs. (refusal : Refusal) → IsRefused fs words refusal → (Rose before now → ⊥) → ((status ≡ 2) × HasLine err (refusal_line refusal)) ⊎ (status ≡ 5))
+    IfSome files (λ fs. (refusal : Refusal) → IsRefused fs words refusal → IsCalm fs words before now → ((status ≡ 2) × HasLine err (refusal_line refusal)) ⊎ (status ≡ 5))
 
-pub record Says (files : Option Files) (words : List (List ℕ)) (before now : ℕ) (out err : Port) (status : ℕ) : Type 0 where
+pub record Says (files : Option Files) (words : List (List ℕ)) (before now : Faults) (out err : Port) (status : ℕ) : Type 0 where
   pub known : IsStatus status
   pub done : SaysDone files words out err status
   pub refused : SaysRefused files words out err status

@@ -2,7 +2,8 @@ ghost use Rattle.std.specs.Prelude.{◌≡◌, ℕ, ◌^◌, ◌<◌, ◌≤◌,
 ghost use Rattle.std.specs.Io.{ReadsAtMost};
 ghost use Rattle.std.specs.Io.KnownBytes.{ReadConsumes};
 ghost use Rattle.bern_ports.specs.Causes.{HasCause};
-ghost use Rattle.bern_top.specs.Answers.{HasFaultCause, IsFaultAt, ReadsWhole, Stands};
+ghost use Rattle.bern_ports.specs.Files.{BlamesOnly};
+ghost use Rattle.bern_top.specs.Answers.{BlamesOne, HasFaultCause, IsFaultAt, ReadsWhole, Stands};
 
 use crate::load_error::LoadError;
 use bern_base::Text;
@@ -22,6 +23,7 @@ pub fn read_file<F: Shelf>(
     requires { limit < 2 ^ 32 }
     ensures files { F.files shelf.new ≡ F.files shelf.old }
     ensures cause { HasFaultCause (F.faults shelf.old) (F.faults shelf.new) result }
+    ensures blame { IfSome (F.files shelf.old) (BlamesOne (F.faults_on shelf.old) (F.faults_on shelf.new) result) }
     ensures short { IfOk result (λ o. IfSome o (λ bytes. length bytes ≤ limit)) }
     ensures told { IfSome (F.files shelf.old) (λ fs. ReadsWhole fs name.now limit result) }
 {
@@ -48,6 +50,8 @@ fn read_piece<F: Shelf>(shelf: &mut F, piece: &mut [u8], most: usize) -> Result<
     requires room { most ≤ length piece.old }
     ensures files { F.files shelf.new ≡ F.files shelf.old }
     ensures begun { IsTrue (F.begun shelf.new) }
+    ensures current { F.current shelf.new ≡ F.current shelf.old }
+    ensures blame { BlamesOnly (F.files shelf.old) (F.current shelf.old) (F.faults_on shelf.old) (F.faults_on shelf.new) result }
     ensures bound { IfOk result (λ n. n ≤ most) }
     ensures bytes { ReadConsumes (F.left shelf.old) (F.left shelf.new) result piece.new }
     ensures cause { HasCause (F.faults shelf.old) (F.faults shelf.new) result }
@@ -65,8 +69,10 @@ fn read_on<F: Shelf>(
     requires small { limit < 2 ^ 32 }
     requires begun { IsTrue (F.begun shelf.old) }
     requires start { IfSome (F.files shelf.old) (λ fs. Stands fs name.now [] (F.left shelf.old)) }
+    requires current { IfSome (F.files shelf.old) (λ fs. F.current shelf.old ≡ name.now) }
     ensures files { F.files shelf.new ≡ F.files shelf.old }
     ensures cause { HasFaultCause (F.faults shelf.old) (F.faults shelf.new) result }
+    ensures blame { IfSome (F.files shelf.old) (BlamesOne (F.faults_on shelf.old) (F.faults_on shelf.new) result) }
     ensures short { IfOk result (λ o. IfSome o (λ bytes. length bytes ≤ limit)) }
     ensures told { IfSome (F.files shelf.old) (λ fs. ReadsWhole fs name.now limit result) }
 {

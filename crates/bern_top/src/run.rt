@@ -4,7 +4,7 @@ ghost use Rattle.bern_ports.specs.Files.{bytes_of};
 ghost use Rattle.dense_model.specs.ArrayText.{array_text};
 ghost use Rattle.dense_model.specs.Dense.{dense, due_text, first_state};
 ghost use Rattle.dense_model.specs.State.{values_in};
-ghost use Rattle.bern_top.specs.Answers.{Agrees, HasFaultCause, IsRefusalOf, Loads, LoadsBytes, LoadsWith, Parses};
+ghost use Rattle.bern_top.specs.Answers.{Agrees, BlamesOne, HasFaultCause, IsRefusalOf, Loads, LoadsBytes, LoadsWith, Parses};
 ghost use Rattle.bern_top.specs.FixedJob.{job_of};
 ghost use Rattle.bern_top.specs.FixedMatrix.{IsEntry};
 ghost use Rattle.bern_top.specs.Walk.{Runs, ReadsMatrix, ReadsVector, Comes, ComesMatrix, ComesVector};
@@ -39,6 +39,7 @@ pub fn run_call<F: Shelf, L: Ledger>(
     requires plain { report ≡ false }
     ensures files { F.files shelf.new ≡ F.files shelf.old }
     ensures cause { HasFaultCause (F.faults shelf.old) (F.faults shelf.new) result }
+    ensures blame { IfSome (F.files shelf.old) (BlamesOne (F.faults_on shelf.old) (F.faults_on shelf.new) result) }
     ensures told { IfSome (F.files shelf.old) (λ fs. Agrees (Runs fs job.now) (Comes fs job.now) result) }
 {
     match read_file(alloc, job, JOB_LIMIT, shelf) {
@@ -87,6 +88,7 @@ fn parse_matrix(
 fn load_bytes<F: Shelf>(alloc: Global, name: &[u8], shelf: &mut F) -> Result<Text, LoadError>
     ensures files { F.files shelf.new ≡ F.files shelf.old }
     ensures cause { HasFaultCause (F.faults shelf.old) (F.faults shelf.new) result }
+    ensures blame { IfSome (F.files shelf.old) (BlamesOne (F.faults_on shelf.old) (F.faults_on shelf.new) result) }
     ensures short { IfOk result (λ bytes. length bytes ≤ 67108864) }
     ensures told { IfSome (F.files shelf.old) (λ fs. LoadsBytes fs name.now result) }
 {
@@ -110,6 +112,7 @@ fn load_matrix<F: Shelf>(
 ) -> Result<(Items<Entry>, Text), LoadError>
     ensures files { F.files shelf.new ≡ F.files shelf.old }
     ensures cause { HasFaultCause (F.faults shelf.old) (F.faults shelf.new) result }
+    ensures blame { IfSome (F.files shelf.old) (BlamesOne (F.faults_on shelf.old) (F.faults_on shelf.new) result) }
     ensures inside { IfOk result (λ p. All (IsEntry rows cols) p.0) }
     ensures short { IfOk result (λ p. length p.1 ≤ 67108864) }
     ensures told { IfSome (F.files shelf.old) (λ fs. LoadsWith fs name.now rows cols result) }
@@ -127,6 +130,7 @@ fn load_matrix<F: Shelf>(
 fn run_form<F: Shelf>(alloc: Global, job: FixedJob<'_>, shelf: &mut F) -> Result<Text, LoadError>
     ensures files { F.files shelf.new ≡ F.files shelf.old }
     ensures cause { HasFaultCause (F.faults shelf.old) (F.faults shelf.new) result }
+    ensures blame { IfSome (F.files shelf.old) (BlamesOne (F.faults_on shelf.old) (F.faults_on shelf.new) result) }
     ensures told { IfSome (F.files shelf.old) (λ fs. Agrees (ReadsMatrix fs (job_of job.entry)) (ComesMatrix fs (job_of job.entry)) result) }
 {
     match load_matrix(alloc, job.matrix, job.size, job.size, shelf) {
@@ -148,6 +152,7 @@ fn run_matrix<F: Shelf>(
     requires read { IfSome (F.files shelf.old) (λ fs. bytes_of fs job.matrix.now ≡ Some bytes) }
     ensures files { F.files shelf.new ≡ F.files shelf.old }
     ensures cause { HasFaultCause (F.faults shelf.old) (F.faults shelf.new) result }
+    ensures blame { IfSome (F.files shelf.old) (BlamesOne (F.faults_on shelf.old) (F.faults_on shelf.new) result) }
     ensures told { IfSome (F.files shelf.old) (λ fs. Agrees (ReadsVector fs (job_of job.entry) matrix.now) (ComesVector (job_of job.entry)) result) }
 {
     match vector_entries(alloc, job, bytes, shelf) {
@@ -170,6 +175,7 @@ fn vector_entries<F: Shelf>(
     requires read { IfSome (F.files shelf.old) (λ fs. bytes_of fs job.matrix.now ≡ Some bytes) }
     ensures files { F.files shelf.new ≡ F.files shelf.old }
     ensures cause { HasFaultCause (F.faults shelf.old) (F.faults shelf.new) result }
+    ensures blame { IfSome (F.files shelf.old) (BlamesOne (F.faults_on shelf.old) (F.faults_on shelf.new) result) }
     ensures inside { IfOk result (λ es. All (IsEntry job.entry.size 1) es) }
     ensures told { IfSome (F.files shelf.old) (λ fs. Loads fs job.entry.vector.now job.entry.size 1 result) }
 {

@@ -1,5 +1,5 @@
 ghost use Rattle.std.specs.Prelude.{◌≡◌, map, string_bytes, IfSome, IsNone};
-ghost use Rattle.bern_top.specs.Answers.{Agrees, HasFaultCause, HasLine};
+ghost use Rattle.bern_top.specs.Answers.{Agrees, BlamesOne, HasFaultCause, HasLine};
 ghost use Rattle.bern_top.specs.Lines.{refusal_line};
 ghost use Rattle.bern_top.specs.Top.{IsNoRun, IsStatus, SaysDone, SaysRefused, SaysWords, SaysReadFault, SaysWriteFault, SaysMemory, SaysDue, SaysRefusal, Says, PrintsText, TellsFault};
 ghost use Rattle.bern_top.specs.Walk.{IsRun, Runs, Comes};
@@ -46,7 +46,7 @@ pub fn bernoulli<F: Shelf, S: Sink, L: Ledger>(
     ensures words { SaysWords (map string_bytes words.now)
         (record { old = S.written out.old; new = S.written out.new; before = S.faults out.old; now = S.faults out.new })
         (record { old = S.written err.old; new = S.written err.new; before = S.faults err.old; now = S.faults err.new }) result }
-    ensures read_fault { SaysReadFault (F.files shelf.old) (map string_bytes words.now) (F.faults shelf.old) (F.faults shelf.new)
+    ensures read_fault { SaysReadFault (F.files shelf.old) (map string_bytes words.now) (record { total = F.faults shelf.old; by_name = F.faults_on shelf.old }) (record { total = F.faults shelf.new; by_name = F.faults_on shelf.new })
         (record { old = S.written out.old; new = S.written out.new; before = S.faults out.old; now = S.faults out.new })
         (record { old = S.written err.old; new = S.written err.new; before = S.faults err.old; now = S.faults err.new }) result }
     ensures write_fault { SaysWriteFault (F.files shelf.old) (map string_bytes words.now)
@@ -55,9 +55,9 @@ pub fn bernoulli<F: Shelf, S: Sink, L: Ledger>(
     ensures memory { SaysMemory
         (record { old = S.written out.old; new = S.written out.new; before = S.faults out.old; now = S.faults out.new })
         (record { old = S.written err.old; new = S.written err.new; before = S.faults err.old; now = S.faults err.new }) result }
-    ensures due { SaysDue (F.files shelf.old) (map string_bytes words.now) (F.faults shelf.old) (F.faults shelf.new)
+    ensures due { SaysDue (F.files shelf.old) (map string_bytes words.now) (record { total = F.faults shelf.old; by_name = F.faults_on shelf.old }) (record { total = F.faults shelf.new; by_name = F.faults_on shelf.new })
         (record { old = S.written out.old; new = S.written out.new; before = S.faults out.old; now = S.faults out.new }) result }
-    ensures refusal { SaysRefusal (F.files shelf.old) (map string_bytes words.now) (F.faults shelf.old) (F.faults shelf.new)
+    ensures refusal { SaysRefusal (F.files shelf.old) (map string_bytes words.now) (record { total = F.faults shelf.old; by_name = F.faults_on shelf.old }) (record { total = F.faults shelf.new; by_name = F.faults_on shelf.new })
         (record { old = S.written err.old; new = S.written err.new; before = S.faults err.old; now = S.faults err.new }) result }
 {
     match job_of(words) {
@@ -101,7 +101,7 @@ fn run<F: Shelf, S: Sink, L: Ledger>(
     steps: &mut Steps<L>,
 ) -> u8
     requires { IsRun (map string_bytes words.now) name.now }
-    ensures { Says (F.files shelf.old) (map string_bytes words.now) (F.faults shelf.old) (F.faults shelf.new)
+    ensures { Says (F.files shelf.old) (map string_bytes words.now) (record { total = F.faults shelf.old; by_name = F.faults_on shelf.old }) (record { total = F.faults shelf.new; by_name = F.faults_on shelf.new })
         (record { old = S.written out.old; new = S.written out.new; before = S.faults out.old; now = S.faults out.new })
         (record { old = S.written err.old; new = S.written err.new; before = S.faults err.old; now = S.faults err.new }) result }
 {
@@ -118,6 +118,7 @@ fn loaded<F: Shelf, L: Ledger>(
     steps: &mut Steps<L>,
 ) -> Result<Text, LoadError>
     ensures cause { HasFaultCause (F.faults shelf.old) (F.faults shelf.new) result }
+    ensures blame { IfSome (F.files shelf.old) (BlamesOne (F.faults_on shelf.old) (F.faults_on shelf.new) result) }
     ensures told { IfSome (F.files shelf.old) (λ fs. Agrees (Runs fs name.now) (Comes fs name.now) result) }
 {
     match Text::from_bytes(alloc, name) {

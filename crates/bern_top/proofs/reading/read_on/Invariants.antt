@@ -1,4 +1,4 @@
-use Rattle.std.proofs.Common.{◌≡◌, ℕ, ◌+◌, ◌-◌, ◌≤◌, length, IsTrue, IfSome}
+use Rattle.std.proofs.Common.{◌≡◌, ℕ, ◌+◌, ◌-◌, ◌≤◌, List, length, IsTrue, IfSome}
 use Rattle.bern_top.specs.Answers.{Stands}
 use Rattle.bern_top.proofs.reading.read_on.Given as goal
 
@@ -7,6 +7,8 @@ invariant-file g l = record {
   begun : IsTrue (g.F.Shelf.begun l.shelf);
   files : g.F.Shelf.files l.shelf ≡ g.F.Shelf.files l.fn.shelf;
   later : g.F.Shelf.faults l.fn.shelf ≤ g.F.Shelf.faults l.shelf;
+  current : IfSome (g.F.Shelf.files l.fn.shelf) (λ fs. g.F.Shelf.current l.shelf ≡ l.name);
+  calm : (n : List ℕ) → g.F.Shelf.faults_on l.shelf n ≡ g.F.Shelf.faults_on l.fn.shelf n;
   told : IfSome (g.F.Shelf.files l.fn.shelf) (λ fs. Stands fs l.name l.bytes (g.F.Shelf.left l.shelf));
 }
 
