@@ -5,9 +5,7 @@
 
 mod boxes;
 mod event;
-mod replay;
 mod world;
 
 pub use event::{Event, StepError};
-pub use replay::replay;
 pub use world::World;
