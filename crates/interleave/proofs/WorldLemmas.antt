@@ -10,7 +10,7 @@ use Rattle.rank_scripts.specs.Ranks.{put}
 use Rattle.rank_model.specs.Runs.{Run, IsRun}
 use Rattle.rank_node.specs.declared.node.Node.{Node}
 use Rattle.rank_node.specs.NodeStates.{node_of, IsNode}
-use Rattle.rank_scripts.specs.Acts.{Act, Work, Post, Wait, at_work, at_post, receiver}
+use Rattle.rank_scripts.specs.Acts.{Act, Work, Post, Wait, at_work, at_post, at_end, receiver}
 use Rattle.rank_scripts.specs.Nodes.{fresh, worked, posted, took}
 use Rattle.rank_scripts.specs.Nodes as scripted
 use Rattle.rank_scripts.specs.Worlds.{Works, Posts, Takes, Fit, has_some, can, happens, start}
@@ -24,7 +24,7 @@ use Rattle.rank_node.specs.declared.stage.Want.TheVariants as want
 use Rattle.rank_node.specs.Positions.{want_of}
 use Rattle.rank_node.proofs.ListLemmas.{some_same}
 use Rattle.interleave.specs.declared.world.World.{World}
-use Rattle.interleave.specs.Worlds.{node_or, node_in, flight_in, world_in, is_work, is_post, IsRank, IsFit, IsStart, IsPosted}
+use Rattle.interleave.specs.Worlds.{node_or, node_in, flight_in, world_in, is_work, is_post, is_end, IsRank, IsFit, IsStart, IsPosted}
 
 pub slice_get-set_same : {A : Type 0} (xs : List A) (i : ℕ) (x : A) → i < length xs → slice_get (set xs i x) i ≡ Some x
 slice_get-set_same [] i x h = absurd (omega arith)
@@ -332,3 +332,9 @@ world_kept w items nodes boxes r n new are read put_in kept same =
   where
     of_parts : List Node → List (List (List Letter)) → World
     of_parts ns bs = record { nodes = ns; boxes = bs }
+
+pub is_end-want : (acts : List (Act Letter)) → is_end (want_of acts) ≡ at_end acts
+is_end-want [] = refl
+is_end-want (Work ∷ acts) = refl
+is_end-want (Post to letter ∷ acts) = refl
+is_end-want (Wait ∷ acts) = refl

@@ -2,17 +2,18 @@
 use Rattle.std.specs.Prelude.{◌≡◌, ℕ, ◌<◌, Bool, true, false, List, [], ◌∷◌, ◌++◌, Option, Some, None, length, map, filter, take, slice_get, slice_index_or, slice_set}
 use Rattle.std.specs.List.{All, range_with_len, flat_map}
 use Rattle.bern_base.specs.declared.letter.Letter.{Letter}
-use Rattle.rank_scripts.specs.Acts.{receiver}
+use Rattle.rank_scripts.specs.Acts.{at_end, receiver}
 use Rattle.rank_scripts.specs.Nodes.{fresh}
 use Rattle.rank_scripts.specs.Nodes as scripted
 use Rattle.rank_scripts.specs.Worlds.{Works, Posts, Takes, Fit, can}
 use Rattle.rank_scripts.specs.Worlds as worlds
-use Rattle.rank_model.specs.Runs.{Run, IsRun}
+use Rattle.rank_model.specs.Runs.{Run, IsRun, part_values}
+use Rattle.rank_model.specs.States.{end_state}
 use Rattle.rank_model.specs.Letters.{scripts}
 use Rattle.rank_node.specs.declared.node.Node.{Node}
 use Rattle.rank_node.specs.declared.stage.Want.{Want}
 use Rattle.rank_node.specs.declared.stage.Want.TheVariants as want
-use Rattle.rank_node.specs.NodeStates.{node_of, IsNode}
+use Rattle.rank_node.specs.NodeStates.{node_of, values_held, IsNode}
 use Rattle.interleave.specs.declared.event.Event.{Event}
 use Rattle.interleave.specs.declared.event.Event.TheVariants.{Work, Post, Take}
 
@@ -88,3 +89,19 @@ is_post want.Work = false
 is_post (want.Post to) = true
 is_post want.Letter = false
 is_post want.Done = false
+
+abbrev pub is_end : Want → Bool
+is_end want.Work = false
+is_end (want.Post to) = false
+is_end want.Letter = false
+is_end want.Done = true
+
+-- the event stands among these
+pub record IsAmong (event : Event) (events : List Event) : Type 0 where
+  pub place : ℕ
+  pub at : slice_get events place ≡ Some event
+
+-- each node is done, and what it holds is its rank's part of the state at the end
+pub record AreAtEnd (run : Run) (nodes : List Node) : Type 0 where
+  pub done : (r : ℕ) (n : Node) → slice_get nodes r ≡ Some n → at_end (node_of run n).todo ≡ true
+  pub parts : (r array : ℕ) (n : Node) → slice_get nodes r ≡ Some n → run.dense array ≡ true → values_held n array ≡ part_values run (end_state run) array r

@@ -5,7 +5,10 @@
 
 mod boxes;
 mod event;
+
+mod turns;
 mod world;
 
 pub use event::{Event, StepError};
+pub use turns::replay;
 pub use world::World;

@@ -1,12 +1,12 @@
-ghost use Rattle.std.specs.Prelude.{◌≡◌, ◌<◌, ℕ, true, false, Some, length, slice_get, slice_index_or, [], IfOk, OnOk, OnErr, IsErrOf, ◌↔◌};
-ghost use Rattle.rank_scripts.specs.Acts.{at_work, at_post};
+ghost use Rattle.std.specs.Prelude.{◌≡◌, ◌<◌, ℕ, true, false, Some, length, slice_get, slice_index_or, [], ◌∷◌, ◌++◌, map, filter, IfOk, OnOk, OnErr, IsErrOf, ◌↔◌};
+ghost use Rattle.rank_scripts.specs.Acts.{at_work, at_post, at_end};
 ghost use Rattle.rank_scripts.specs.Nodes.{posted};
 ghost use Rattle.rank_scripts.specs.Worlds.{Works, Posts, Takes, can, happens, start, done};
 ghost use Rattle.rank_model.specs.Runs.{Run, IsRun};
 ghost use Rattle.rank_model.specs.Letters.{scripts};
 ghost use Rattle.rank_node.specs.declared.node.Node.{Node};
 ghost use Rattle.rank_node.specs.NodeStates.{node_of};
-ghost use Rattle.interleave.specs.Worlds.{node_in, flight_in, world_in, event_of, is_work, is_post, enabled_events, IsRank, IsFit, IsStart, IsPosted};
+ghost use Rattle.interleave.specs.Worlds.{node_in, flight_in, world_in, event_of, is_work, is_post, is_end, events_of, enabled_events, IsRank, IsFit, IsStart, IsPosted};
 
 use crate::boxes::Boxes;
 use crate::event::{Event, StepError};
@@ -18,6 +18,12 @@ fn is_work(want: Want) -> bool
     ensures { result ≡ is_work want }
 {
     matches!(want, Want::Work)
+}
+
+fn is_end(want: Want) -> bool
+    ensures { result ≡ is_end want }
+{
+    matches!(want, Want::Done)
 }
 
 fn is_post(want: Want) -> bool
@@ -84,6 +90,83 @@ impl World {
     {
         let ranks = self.nodes.len();
         (rank as usize) < ranks && (from as usize) < ranks && !self.boxes.is_empty(from, rank)
+    }
+
+    fn is_done(&self, rank: u32) -> bool
+        ghost run: { Run }
+        requires fit { IsFit run self.now.nodes self.now.boxes }
+        requires rank { rank < run.ranks }
+        ensures { result ≡ at_end (node_in run self.now.nodes rank).todo }
+    {
+        is_end(self.nodes.at(rank as usize).want())
+    }
+
+    /// Whether every rank is done.
+    pub fn done(&self) -> bool
+        ghost run: { Run }
+        requires { IsFit run self.now.nodes self.now.boxes }
+        ensures { result ≡ done (scripts run) (world_in run self.now.nodes self.now.boxes) }
+    {
+        let ranks = self.nodes.len() as u32;
+        for rank in 0..ranks {
+            if !self.is_done(rank) {
+                return false;
+            }
+        }
+        true
+    }
+
+    /// The events that are enabled, by rank, and then work, post, and takes by sender.
+    pub fn enabled(&self, alloc: Global) -> Result<Items<Event>, NoMemory>
+        ghost run: { Run }
+        requires { IsFit run self.now.nodes self.now.boxes }
+        ensures { IfOk result (λ events. map event_of events ≡ enabled_events run (world_in run self.now.nodes self.now.boxes)) }
+    {
+        let ranks = self.nodes.len() as u32;
+        let mut events = Items::new(alloc);
+        for rank in 0..ranks {
+            match self.push_events(rank, ranks, &mut events) {
+                Ok(()) => {}
+                Err(error) => return Err(error),
+            }
+        }
+        Ok(events)
+    }
+
+    fn push_events(&self, rank: u32, ranks: u32, events: &mut Items<Event>) -> Result<(), NoMemory>
+        ghost run: { Run }
+        requires fit { IsFit run self.now.nodes self.now.boxes }
+        requires ranks { ranks ≡ run.ranks }
+        ensures { OnOk result (map event_of events.new ≡ map event_of events.old ++ filter (can (scripts run) (world_in run self.now.nodes self.now.boxes)) (events_of run.ranks rank)) }
+    {
+        match self.push_enabled(Event::Work { rank }, events) {
+            Ok(()) => {}
+            Err(error) => return Err(error),
+        }
+        match self.push_enabled(Event::Post { rank }, events) {
+            Ok(()) => {}
+            Err(error) => return Err(error),
+        }
+        for from in 0..ranks {
+            match self.push_enabled(Event::Take { rank, from }, events) {
+                Ok(()) => {}
+                Err(error) => return Err(error),
+            }
+        }
+        Ok(())
+    }
+
+    /// Appends an event if it is enabled.
+    fn push_enabled(&self, event: Event, events: &mut Items<Event>) -> Result<(), NoMemory>
+        ghost run: { Run }
+        requires { IsFit run self.now.nodes self.now.boxes }
+        ensures { OnOk result (map event_of events.new ≡ map event_of events.old ++ filter (can (scripts run) (world_in run self.now.nodes self.now.boxes)) (event_of event ∷ [])) }
+    {
+        if self.is_enabled(event) {
+            events.push(event)
+        } else {
+            Ok(())
+        }
     }
 
     fn is_enabled(&self, event: Event) -> bool
