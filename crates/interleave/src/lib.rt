@@ -5,7 +5,6 @@
 
 mod boxes;
 mod event;
-
 mod turns;
 mod world;
 

@@ -39,7 +39,9 @@ pub fn replay(alloc: Global, world: World, seed: u64) -> Result<(World, u64), No
 }
 
 fn next_choice(choice: u64) -> u64 {
-    choice.wrapping_mul(6_364_136_223_846_793_005).wrapping_add(1_442_695_040_888_963_407)
+    choice
+        .wrapping_mul(6_364_136_223_846_793_005)
+        .wrapping_add(1_442_695_040_888_963_407)
 }
 
 /// Lets one of the enabled events happen.

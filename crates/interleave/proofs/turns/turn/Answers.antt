@@ -1,4 +1,4 @@
-use Rattle.std.proofs.Common.{◌≡◌, Err, suc, sym, ap, ◌∙◌}
+use Rattle.std.proofs.Common.{Err, suc, sym, ap, ◌∙◌}
 use Rattle.std.proofs.lemmas.Bool.{false≢true}
 use Rattle.rank_scripts.specs.Worlds.{left}
 use Rattle.rank_scripts.proofs.CountLemmas.{happens_count}

@@ -1,10 +1,7 @@
-use Rattle.std.proofs.Common.{◌≡◌, ◌≢◌, ◌<◌, ◌&&◌, ℕ, List, [], ◌∷◌, Some, nat_lt, length, take, drop, get_or, set, slice_get, true, refl, sym, ap, ◌∙◌, subst, arith}
-use Rattle.rank_scripts.specs.Acts.{at_work, at_post, receiver}
+use Rattle.std.proofs.Common.{◌≡◌, ◌<◌, ℕ, sym, ap, ◌∙◌, arith}
 use Rattle.rank_scripts.specs.Nodes.{posted}
-use Rattle.rank_node.specs.declared.node.Node.{Node}
-use Rattle.rank_node.specs.NodeStates.{node_of, IsNode}
+use Rattle.rank_node.specs.NodeStates.{node_of}
 use Rattle.rank_model.specs.Letters.{scripts}
-use Rattle.interleave.specs.Worlds.{node_in, flight_in, world_in, IsRank, IsFit}
 use Rattle.interleave.proofs.WorldLemmas as l
 use Rattle.interleave.proofs.world.post_letter.Goals as goal
 

@@ -1,7 +1,4 @@
-use Rattle.std.proofs.Common.{length, replicate, [], sym, ap, ◌∙◌, subst}
-use Rattle.rank_scripts.specs.Worlds.{Fit}
-use Rattle.rank_scripts.proofs.WorldLemmas.{start_fit}
-use Rattle.rank_model.specs.Letters.{scripts}
+use Rattle.std.proofs.Common.{◌∙◌}
 use Rattle.interleave.proofs.WorldLemmas.{new_same, new_fit}
 use Rattle.interleave.proofs.world.World.new.Goals as goal
 

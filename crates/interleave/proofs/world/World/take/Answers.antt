@@ -1,10 +1,6 @@
-use Rattle.std.proofs.Common.{◌≡◌, ◌≢◌, ◌<◌, ◌&&◌, ℕ, List, [], ◌∷◌, Some, nat_lt, length, take, drop, get_or, set, slice_get, true, refl, sym, ap, ◌∙◌, subst, arith}
-use Rattle.rank_scripts.specs.Acts.{at_work, at_post, receiver}
+use Rattle.std.proofs.Common.{◌≡◌, ◌<◌, ◌&&◌, [], Some, nat_lt, length, get_or, set, slice_get, ap, ◌∙◌}
 use Rattle.rank_scripts.specs.Worlds.{has_some}
-use Rattle.rank_node.specs.declared.node.Node.{Node}
-use Rattle.rank_node.specs.NodeStates.{node_of, IsNode}
-use Rattle.rank_model.specs.Letters.{scripts}
-use Rattle.interleave.specs.Worlds.{node_in, flight_in, world_in, IsRank, IsFit}
+use Rattle.interleave.specs.Worlds.{flight_in}
 use Rattle.interleave.proofs.WorldLemmas as l
 use Rattle.interleave.proofs.world.World.take.Goals as goal
 
@@ -18,9 +14,23 @@ deliver-done-requires g c =
     let at : slice_get nodes r ≡ Some c.index_mut.result.now = l.lent_node g.run nodes c.into_vec-nodes.result.items c.args.self.now.boxes r c.index_mut.result.now is items rank.0 c.index_mut.ensures.value in
     let from = l.enabled_rank g.run.ranks c.args.from (has_some (flight_in c.args.self.now.boxes c.args.from r)) rank.1 in
     let row : c.args.from < length c.args.self.now.boxes = rw is.rows from.0 in
-    let column : r < length (get_or c.args.self.now.boxes c.args.from []) = rw (is.row c.args.from [] row) rank.0 in
-    ((is.nodes_are r c.index_mut.result.now at).node, (from.0, (row, (column, (l.some_in (flight_in c.args.self.now.boxes c.args.from r) from.1, λ letter first.
-    l.next_taken g.run nodes c.args.self.now.boxes r c.args.from c.index_mut.result.now letter is c.requires.1 at first)))))
+    let column : r < length (get_or c.args.self.now.boxes c.args.from []) = rw (is.row c.args.from [] row) rank.0 in (
+      (is.nodes_are r c.index_mut.result.now at).node,
+      (
+        from.0,
+        (
+          row,
+          (
+            column,
+            (
+              l.some_in (flight_in c.args.self.now.boxes c.args.from r) from.1,
+              λ letter first.
+                  l.next_taken g.run nodes c.args.self.now.boxes r c.args.from c.index_mut.result.now letter is c.requires.1 at first,
+            ),
+          ),
+        ),
+      ),
+    )
 
 pub returns-clause-fit : goal.returns-clause-fit
 returns-clause-fit g c =

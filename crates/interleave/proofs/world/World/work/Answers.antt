@@ -1,10 +1,6 @@
-use Rattle.std.proofs.Common.{◌≡◌, ◌≢◌, ◌<◌, ◌&&◌, ℕ, List, [], ◌∷◌, Some, nat_lt, length, take, drop, get_or, set, slice_get, true, refl, sym, ap, ◌∙◌, subst, arith}
-use Rattle.rank_scripts.specs.Acts.{at_work, at_post, receiver}
-use Rattle.rank_scripts.specs.Worlds.{has_some}
-use Rattle.rank_node.specs.declared.node.Node.{Node}
-use Rattle.rank_node.specs.NodeStates.{node_of, IsNode}
-use Rattle.rank_model.specs.Letters.{scripts}
-use Rattle.interleave.specs.Worlds.{node_in, flight_in, world_in, IsRank, IsFit}
+use Rattle.std.proofs.Common.{◌≡◌, Some, set, slice_get, ap, ◌∙◌}
+use Rattle.rank_scripts.specs.Acts.{at_work}
+use Rattle.interleave.specs.Worlds.{node_in}
 use Rattle.interleave.proofs.WorldLemmas as l
 use Rattle.interleave.proofs.world.World.work.Goals as goal
 
