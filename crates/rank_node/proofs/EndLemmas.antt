@@ -1,8 +1,8 @@
 -- The sums of a rank's inner and outer points are those of its rows.
-use Rattle.std.proofs.Common.{◌≡◌, ℕ, zero, suc, ◌+◌, ◌*◌, ◌%◌, ◌^◌, ◌<◌, ◌≤◌, Bool, true, false, cond, ◌==◌, List, [], ◌∷◌, length, map, filter, get_or, replicate, set, sum_by, refl, sym, ap, ◌∙◌, subst, inl, inr, arith}
-use Rattle.std.specs.List.{All, range_with_len, list_any}
-use Rattle.std.proofs.Math.Nat.{zero-add, add-mod-mod, mod-add-mod, mod-mod}
-use Rattle.std.proofs.lemmas.Bool.{cases_eq, cases_Bool, cond-true, cond-false, eq-eqb, ne_eqb, eqb-true, eqb-false}
+use Rattle.std.proofs.Common.{◌≡◌, ℕ, ◌+◌, ◌%◌, ◌^◌, ◌<◌, true, false, ◌==◌, List, [], ◌∷◌, length, map, filter, get_or, replicate, sum_by, refl, sym, ap, ◌∙◌, inl, inr, arith}
+use Rattle.std.specs.List.{All, range_with_len}
+use Rattle.std.proofs.Math.Nat.{zero-add, add-mod-mod, mod-add-mod}
+use Rattle.std.proofs.lemmas.Bool.{cases_eq, cases_Bool, eq-eqb, ne_eqb, eqb-true, eqb-false}
 use Rattle.std.proofs.lemmas.List.{get_or-set_same, get_or-map, length-map, get_or-replicate, length-replicate, same_lists}
 use Rattle.std.proofs.lemmas.List.Elements.{All-head, All-tail}
 use Rattle.std.proofs.lemmas.List.Folds.{list_any_at}
@@ -10,15 +10,14 @@ use Rattle.std.proofs.lemmas.List.Sums.{sum_by-cons}
 use Rattle.std.proofs.lemmas.List.FromFn.{get_or-map-range_with_len, length-map-range_with_len}
 use Rattle.bern_base.specs.declared.axes.Axis.TheVariants.{Row}
 use Rattle.bern_base.specs.declared.matrix.Entry.{Entry}
-use Rattle.bern_base.specs.Matrix.{IsInside}
 use Rattle.bern_base.specs.Ring.{ring_add}
 use Rattle.dense_model.specs.State.{read}
-use Rattle.placement.specs.Placement.{Triple, IsPlacement, owner_of, local_of, owned_indices, owned_of, global_of}
+use Rattle.placement.specs.Placement.{owner_of, local_of, owned_indices, owned_of, global_of}
 use Rattle.placement.specs.PlacementLaws.{owner-below, global-below, global-owner-local, owner-global, local-global}
 use Rattle.placement.specs.Part.{localized}
 use Rattle.placement.proofs.IndexLemmas.{length-owned_indices, get_or-owned_indices}
 use Rattle.rank_model.specs.Runs.{Run, IsRun, is_home, answer, answer_part, part_values}
-use Rattle.rank_model.specs.Sets.{reads, is_received}
+use Rattle.rank_model.specs.Sets.{reads}
 use Rattle.rank_model.specs.States.{term_at, end_value, end_state}
 use Rattle.rank_node.specs.Waits.{AreKnown}
 use Rattle.rank_node.specs.Sums.{is_inner, inner_term, outer_term, HaveGrown, sums_of}

@@ -1,15 +1,15 @@
 -- What a rank knows of D from the letters that it was given.
-use Rattle.std.proofs.Common.{◌≡◌, ℕ, zero, suc, ◌+◌, ◌<◌, ◌≤◌, Bool, true, false, cond, ◌==◌, not, ◌&&◌, List, [], ◌∷◌, length, take, map, filter, filter_map, get_or, replicate, Some, slice_get, refl, sym, ap, ◌∙◌, subst, ◌⊎◌, inl, inr, arith}
-use Rattle.std.specs.List.{All, range_with_len, cons_option}
+use Rattle.std.proofs.Common.{◌≡◌, ℕ, zero, suc, ◌+◌, ◌<◌, ◌≤◌, Bool, true, false, cond, ◌==◌, not, List, [], ◌∷◌, length, take, map, filter, get_or, refl, sym, ap, ◌∙◌, subst, inl, inr, arith}
+use Rattle.std.specs.List.{range_with_len, cons_option}
 use Rattle.std.proofs.Math.Nat.{zero-add}
 use Rattle.std.proofs.lemmas.Bool.{cases_eq, cond-true, leb-true, and_right, eq-eqb, ne_eqb}
-use Rattle.std.proofs.lemmas.List.{length-map, get_or-map}
+use Rattle.std.proofs.lemmas.List.{get_or-map}
 use Rattle.std.proofs.lemmas.List.FromFn.{length-range_with_len, get_or-range_with_len}
 use Rattle.bern_base.specs.declared.letter.Letter.{Letter}
 use Rattle.bern_base.specs.declared.letter.Letter.TheVariants as letter
 use Rattle.dense_model.specs.State.{read}
 use Rattle.placement.specs.Placement.{owner_of}
-use Rattle.rank_scripts.specs.Scripts.{book, named, IsFrontOf}
+use Rattle.rank_scripts.specs.Scripts.{named}
 use Rattle.rank_scripts.specs.Nodes.{has_all}
 use Rattle.rank_scripts.proofs.RankLemmas.{all_below_at}
 use Rattle.rank_scripts.proofs.RoundLemmas.{book-nests, book-own}
@@ -75,8 +75,8 @@ stands_behind : {X : Type 0} (p : X → Bool) (y : X) (xs : List X) (x d : X) �
     (k : ℕ) × (k < length (filter p (y ∷ xs))) × (get_or (filter p (y ∷ xs)) k d ≡ x)
 stands_behind p y xs x d (k, below, is) =
     elim (p y) as (λ b. (j : ℕ) × (j < length (cond b (y ∷ filter p xs) (filter p xs))) × (get_or (cond b (y ∷ filter p xs) (filter p xs)) j d ≡ x)) [
-      true ↦ (suc k, omega (arith, below), is)
-    | false ↦ (k, below, is)
+      | true ↦ (suc k, omega (arith, below), is)
+      | false ↦ (k, below, is)
     ]
 
 pub stands : {X : Type 0} (p : X → Bool) (xs : List X) (k : ℕ) (d : X) → k < length xs → p (get_or xs k d) ≡ true →

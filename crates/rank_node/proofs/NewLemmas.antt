@@ -1,5 +1,5 @@
 -- A new node is its rank at the start.
-use Rattle.std.proofs.Common.{◌≡◌, ℕ, zero, suc, ◌+◌, ◌-◌, ◌<◌, true, false, List, [], ◌∷◌, ◌++◌, Some, length, get_or, slice_get, replicate, append-nil, append_assoc, refl, sym, ap, ◌∙◌, subst, inl, inr, arith}
+use Rattle.std.proofs.Common.{◌≡◌, ℕ, zero, suc, ◌-◌, ◌<◌, List, [], ◌∷◌, ◌++◌, Some, length, get_or, slice_get, replicate, append-nil, append_assoc, refl, sym, ap, ◌∙◌, subst, inl, inr, arith}
 use Rattle.std.proofs.Math.Path.{fun_ext}
 use Rattle.std.proofs.lemmas.Bool.{cases_lt, false≢true}
 use Rattle.std.proofs.lemmas.List.{length-replicate, get_or-replicate, get_or_past}
@@ -15,16 +15,16 @@ use Rattle.rank_scripts.specs.Nodes as scripted
 use Rattle.rank_scripts.specs.Rounds.{posts_between, acts_of_all}
 use Rattle.rank_scripts.proofs.NodeLemmas.{fresh_fit}
 use Rattle.rank_scripts.proofs.BookLemmas.{sent-fresh}
-use Rattle.rank_model.specs.Runs.{Run, IsRun, answer_part, part_values}
+use Rattle.rank_model.specs.Runs.{Run, IsRun, answer_part}
 use Rattle.rank_model.specs.Letters.{rounds, scripts}
 use Rattle.rank_node.specs.declared.node.Node.{Node}
 use Rattle.rank_node.specs.declared.stage.Stage.TheVariants.{Inspect}
 use Rattle.rank_node.specs.declared.stage.Tally.{Tally}
-use Rattle.rank_node.specs.Jobs.{IsJobOf, ArePartsOf, is_whole}
+use Rattle.rank_node.specs.Jobs.{IsJobOf, ArePartsOf}
 use Rattle.rank_node.specs.Made.{AreHeld, IsDealing}
 use Rattle.rank_node.specs.Positions.{due_request, due_values, from_requests, from_inner}
 use Rattle.rank_node.specs.Waits.{letters_from}
-use Rattle.rank_node.specs.NodeStates.{node_of, IsTallied, IsNode}
+use Rattle.rank_node.specs.NodeStates.{IsTallied, IsNode}
 use Rattle.rank_node.proofs.NodeLemmas.{node_at, settled_same}
 
 -- the script, by its posts

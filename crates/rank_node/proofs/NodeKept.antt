@@ -1,16 +1,15 @@
 -- What a node keeps as it posts, takes and works.
-use Rattle.std.proofs.Common.{◌≡◌, ℕ, zero, suc, ◌+◌, ◌<◌, ◌≤◌, true, List, [], ◌∷◌, ◌++◌, Some, length, get_or, set, slice_get, map, refl, sym, ap, ◌∙◌, subst, inl, inr, arith}
+use Rattle.std.proofs.Common.{◌≡◌, ℕ, ◌+◌, ◌<◌, ◌≤◌, true, List, [], ◌∷◌, ◌++◌, Some, length, get_or, set, slice_get, map, sym, ap, ◌∙◌, subst, inl, inr, arith}
 use Rattle.std.proofs.lemmas.List.{length-set, length_push, get_or-set_same, get_or-set_other}
 use Rattle.std.proofs.lemmas.Bool.{cases_eq}
 use Rattle.bern_base.specs.declared.letter.Letter.{Letter}
-use Rattle.rank_scripts.specs.Acts.{Work, Post, at_work, at_post}
+use Rattle.rank_scripts.specs.Acts.{at_post}
 use Rattle.rank_scripts.specs.Ranks.{put}
 use Rattle.rank_scripts.specs.Scripts.{book, IsFrontOf, IsNextOf}
 use Rattle.rank_scripts.specs.Nodes.{has_all, worked, posted, took, sent, NodeFit}
 use Rattle.rank_scripts.specs.Nodes as scripted
-use Rattle.rank_scripts.proofs.NodeLemmas.{worked_fit, posted_fit, took_fit, has_all-more}
+use Rattle.rank_scripts.proofs.NodeLemmas.{posted_fit, took_fit, has_all-more}
 use Rattle.rank_scripts.proofs.BookLemmas.{IsFrontOf-next}
-use Rattle.rank_scripts.proofs.RankLemmas.{put_both}
 use Rattle.dense_model.specs.State.{read}
 use Rattle.placement.specs.Placement.{owned_indices}
 use Rattle.rank_model.specs.Runs.{Run, part_values}
@@ -24,7 +23,7 @@ use Rattle.rank_node.specs.Letters.{asked_in}
 use Rattle.rank_node.specs.Positions.{todo_of, passed_of, state_of, HasItsLetter, GoesTo, Posts}
 use Rattle.rank_node.specs.Waits.{letters_from, HaveFronts}
 use Rattle.rank_node.specs.NodeStates.{node_of, given_of, values_held, IsOfRun, IsTallied, IsNode}
-use Rattle.rank_node.proofs.NodeLemmas.{node_at, posted_same, took_same, worked_same, posted_tallied, post_small, letters_from-set}
+use Rattle.rank_node.proofs.NodeLemmas.{node_at, posted_same, took_same, posted_tallied, post_small, letters_from-set}
 use Rattle.rank_node.proofs.ListLemmas.{get_or-read_at}
 use Rattle.rank_node.proofs.PositionLemmas.{asked_is}
 

@@ -1,20 +1,19 @@
 -- A node that works, posts or takes is the rank that its scripts say.
-use Rattle.std.proofs.Common.{slice_get, ◌≡◌, ℕ, zero, suc, ◌+◌, ◌-◌, ◌*◌, ◌^◌, ◌<◌, ◌≤◌, Bool, true, false, cond, ◌==◌, List, [], ◌∷◌, ◌++◌, Option, Some, None, length, length-append, map, filter, filter_map, take, drop, get_or, set, sum_by, refl, sym, ap, ◌∙◌, subst, inl, inr, arith}
+use Rattle.std.proofs.Common.{slice_get, ◌≡◌, ℕ, ◌+◌, ◌<◌, ◌≤◌, true, ◌==◌, List, [], ◌∷◌, ◌++◌, Option, Some, None, length, length-append, map, take, drop, get_or, set, sum_by, refl, sym, ap, ◌∙◌, subst, inl, inr, arith}
 use Rattle.std.specs.List.{range_with_len, cons_option}
 use Rattle.std.proofs.Math.Path.{fun_ext}
-use Rattle.std.proofs.lemmas.Bool.{cases_eq, cases_lt, eq-eqb, ne_eqb, cond-true, cond-false}
+use Rattle.std.proofs.lemmas.Bool.{cases_eq, eq-eqb, ne_eqb, cond-true, cond-false}
 use Rattle.std.proofs.lemmas.List.{get_or-set_same, get_or-set_other, length-map, length_push}
 use Rattle.std.proofs.lemmas.List.Sums.{sum_by-append, sum_by-cons, sum_by_push, length-filter, count_by-le-length}
 use Rattle.std.proofs.lemmas.List.FromFn.{length-range_with_len}
 use Rattle.bern_base.specs.declared.letter.Letter.{Letter}
-use Rattle.bern_base.specs.declared.letter.Letter.TheVariants as letter
 use Rattle.dense_model.specs.State.{read}
-use Rattle.rank_scripts.specs.Acts.{Act, Work, Post, Wait, posts_to, at_work, at_post, receiver}
+use Rattle.rank_scripts.specs.Acts.{Act, Work, Post, posts_to, at_work, at_post, receiver}
 use Rattle.rank_scripts.specs.Ranks.{put}
-use Rattle.rank_scripts.specs.Scripts.{book, IsFrontOf, IsNextOf}
+use Rattle.rank_scripts.specs.Scripts.{book}
 use Rattle.rank_scripts.specs.Nodes.{has_all, behind, settle, fresh, worked, posted, took, sent, NodeFit}
 use Rattle.rank_scripts.specs.Nodes as scripted
-use Rattle.rank_scripts.proofs.RankLemmas.{put_same, put_other}
+use Rattle.rank_scripts.proofs.RankLemmas.{put_same}
 use Rattle.rank_scripts.proofs.NodeLemmas.{worked_fit, posted_fit, took_fit, rest-at_post}
 use Rattle.rank_scripts.proofs.BookLemmas.{sent-posted, sent-posted_other, sent-split, next-at_post}
 use Rattle.rank_scripts.proofs.RoundLemmas.{book-nests, book-own}

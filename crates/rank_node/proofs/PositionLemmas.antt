@@ -1,5 +1,5 @@
 -- The positions of a rank, one after another.
-use Rattle.std.proofs.Common.{◌≡◌, ℕ, zero, suc, ◌+◌, ◌-◌, ◌<◌, ◌≤◌, Bool, true, false, cond, ◌==◌, nat_le, List, [], ◌∷◌, ◌++◌, Option, Some, None, length, map, filter_map, take, refl, sym, ap, ◌∙◌, subst, inl, inr, arith}
+use Rattle.std.proofs.Common.{◌≡◌, ℕ, suc, ◌+◌, ◌-◌, ◌<◌, ◌≤◌, Bool, true, false, nat_le, List, [], ◌∷◌, ◌++◌, Option, Some, None, length, map, filter_map, take, refl, sym, ap, ◌∙◌, subst, inl, inr, arith}
 use Rattle.std.specs.List.{range_with_len, cons_option}
 use Rattle.std.proofs.lemmas.Bool.{cases_eq, eq-eqb, ne_eqb, cond-true, cond-false, le-leb, leb-true, false_from_ne_true}
 use Rattle.std.proofs.lemmas.List.{length-map}
@@ -17,10 +17,10 @@ use Rattle.rank_model.specs.Runs.{Run}
 use Rattle.rank_model.specs.Sets.{send, receive}
 use Rattle.rank_model.specs.Letters.{request, values_letter, values_of, values_in, need_sets, rounds, scripts}
 use Rattle.rank_node.specs.declared.stage.Stage.{Stage}
-use Rattle.rank_node.specs.declared.stage.Stage.TheVariants.{Inspect, Request, AwaitRequests, Values, Inner, AwaitValues, Outer, Done}
+use Rattle.rank_node.specs.declared.stage.Stage.TheVariants.{Request, AwaitRequests, Values, Inner, AwaitValues, Outer}
 use Rattle.rank_node.specs.Letters.{asked_elements, asked_in}
 use Rattle.rank_node.specs.Waits.{due_for}
-use Rattle.rank_node.specs.Positions.{due_request, due_values, from_inner, from_values, from_requests, todo_of, passed_of, position_of, HasItsLetter, GoesTo, Posts}
+use Rattle.rank_node.specs.Positions.{due_request, due_values, from_inner, from_values, from_requests, todo_of, HasItsLetter, GoesTo, Posts}
 
 -- posts to the ranks from a to the last, one at a time
 posts_split : (due : ℕ → Option Letter) (a ranks : ℕ) → a < ranks → posts_between due a (ranks - a) ≡ post_due a (due a) ++ posts_between due (a + 1) (ranks - (a + 1))

@@ -47,7 +47,6 @@ IsSummed-set term items old i sums x k v so inside is value others within =
                 rw (get_or-set_other sums k l ((get_or sums k 0 + v) % 2 ^ 64) 0 other, same) (so.at l below)
           ];
     }
-
   where
     at_it : (l : ℕ) → l ≡ k → l < length old → sum_by (term l) (take (i + 1) items) ≡ sum_by (term l) (take i items) + term l x →
         get_or (set sums k ((get_or sums k 0 + v) % 2 ^ 64)) l 0 % 2 ^ 64 ≡ (get_or old l 0 + sum_by (term l) (take (i + 1) items)) % 2 ^ 64
@@ -76,9 +75,9 @@ pub IsReduced-set : (sums : List ℕ) (k x : ℕ) → IsReduced sums → IsReduc
 IsReduced-set sums k x reduced l =
     elim (cases_eq l k) [
       | inl e ↦ elim (cases_lt k (length sums)) [
-          | inl within ↦ rw (e, get_or-set_same sums k (x % 2 ^ 64) 0 within) (mod-mod x (2 ^ 64))
-          | inr past ↦ rw (set_past sums k (x % 2 ^ 64) past) (reduced l)
-        ]
+        | inl within ↦ rw (e, get_or-set_same sums k (x % 2 ^ 64) 0 within) (mod-mod x (2 ^ 64))
+        | inr past ↦ rw (set_past sums k (x % 2 ^ 64) past) (reduced l)
+      ]
       | inr other ↦ rw (get_or-set_other sums k l (x % 2 ^ 64) 0 other) (reduced l)
     ]
 

@@ -1,5 +1,5 @@
 -- What a node keeps as it works, and what it knows of its entries.
-use Rattle.std.proofs.Common.{◌≡◌, ℕ, zero, suc, ◌+◌, ◌<◌, ◌≤◌, Bool, true, false, cond, ◌==◌, ◌||◌, ◌&&◌, not, List, [], ◌∷◌, length, map, filter, get_or, set, replicate, Some, slice_get, refl, sym, ap, ◌∙◌, subst, ◌⊎◌, inl, inr, arith}
+use Rattle.std.proofs.Common.{◌≡◌, ℕ, ◌<◌, true, false, cond, ◌==◌, ◌||◌, ◌&&◌, not, List, [], ◌∷◌, length, map, get_or, set, replicate, Some, slice_get, refl, sym, ap, ◌∙◌, subst, ◌⊎◌, inl, inr, arith}
 use Rattle.std.specs.List.{All, range_with_len}
 use Rattle.std.proofs.Math.Nat.{zero-add}
 use Rattle.std.proofs.lemmas.Bool.{eqb-true, cases_eq, false≢true, cond-true, cond-false}
@@ -9,12 +9,12 @@ use Rattle.std.proofs.lemmas.List.FromFn.{get_or-map-range_with_len, length-map-
 use Rattle.bern_base.specs.declared.axes.Axis.TheVariants.{Row}
 use Rattle.bern_base.specs.declared.matrix.Entry.{Entry}
 use Rattle.bern_base.specs.Matrix.{IsInside}
-use Rattle.placement.specs.Placement.{Triple, IsPlacement, owner_of, local_of, owned_indices, owned_of}
+use Rattle.placement.specs.Placement.{Triple, owner_of, local_of, owned_indices, owned_of}
 use Rattle.placement.specs.PlacementLaws.{local-below}
 use Rattle.placement.specs.CyclicLaws.{length-cyclic}
 use Rattle.placement.specs.Part.{localized}
 use Rattle.placement.proofs.IndexLemmas.{length-owned_indices}
-use Rattle.rank_scripts.specs.Acts.{Work, at_work, at_end}
+use Rattle.rank_scripts.specs.Acts.{Work, at_work, at_post, at_end, receiver}
 use Rattle.rank_scripts.specs.Nodes.{worked, sent, NodeFit}
 use Rattle.rank_scripts.specs.Nodes as scripted
 use Rattle.rank_scripts.proofs.NodeLemmas.{worked_fit}
@@ -22,7 +22,7 @@ use Rattle.bern_base.specs.declared.letter.Letter.{Letter}
 use Rattle.dense_model.specs.State.{read}
 use Rattle.rank_model.specs.Runs.{Run, IsRun, is_home, answer, answer_part, part_values}
 use Rattle.rank_model.specs.States.{end_value, end_state}
-use Rattle.rank_model.specs.Sets.{reads, is_received, receive}
+use Rattle.rank_model.specs.Sets.{reads, is_received}
 use Rattle.rank_model.specs.Letters.{scripts}
 use Rattle.rank_node.specs.declared.stage.Stage.{Stage}
 use Rattle.rank_node.specs.declared.stage.Stage.TheVariants.{Inspect, Request, AwaitRequests, Values, Inner, AwaitValues, Outer, Done}
@@ -271,3 +271,14 @@ held_before run n array is whole at =
 pub held_at_end : (run : Run) (n : Node) (array : ℕ) → IsNode run n → run.dense array ≡ true → at_end (todo_of run n.rank n.stage) ≡ true → values_held n array ≡ part_values run (end_state run) array n.rank
 held_at_end run n array is whole at =
     is.part array whole ∙ ap (λ state. part_values run state array n.rank) (state_is run n.rank n.stage is.letter ∙ cond-true _ (end_state run) run.first at)
+
+-- the receiver of a post is another rank of the run
+pub receiver_below : (run : Run) (r : ℕ) (stage : Stage) → HasItsLetter run r stage → at_post (todo_of run r stage) ≡ true → receiver (todo_of run r stage) < run.ranks
+receiver_below run r Inspect has at = absurd (cc)
+receiver_below run r (Request to) has at = let todo = ap receiver (post_request run r to (Request to) refl has) in rw todo has.0
+receiver_below run r AwaitRequests has at = absurd (cc)
+receiver_below run r (Values to) has at = let todo = ap receiver (post_values run r to (Values to) refl has).todo in rw todo has.0
+receiver_below run r Inner has at = absurd (cc)
+receiver_below run r AwaitValues has at = absurd (cc)
+receiver_below run r Outer has at = absurd (cc)
+receiver_below run r Done has at = absurd (cc)

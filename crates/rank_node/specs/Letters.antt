@@ -3,7 +3,6 @@ use Rattle.std.specs.Prelude.{ℕ, List, [], ◌∷◌}
 use Rattle.bern_base.specs.declared.letter.Letter.{Letter}
 use Rattle.bern_base.specs.declared.letter.Letter.TheVariants.{Request, Values}
 use Rattle.bern_base.specs.declared.letter.NeedSet.{NeedSet}
-use Rattle.bern_base.specs.declared.letter.Needs.{Needs}
 use Rattle.rank_model.specs.Letters.{need_sets}
 
 -- the elements of the first set, if there is one

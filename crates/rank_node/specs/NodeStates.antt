@@ -1,9 +1,7 @@
 -- A node, as the rank of a run that it is.
-use Rattle.std.specs.Prelude.{◌≡◌, ◌≢◌, ℕ, ◌+◌, ◌%◌, ◌^◌, ◌<◌, ◌≤◌, Bool, true, false, List, [], ◌∷◌, ◌++◌, Option, Some, None, length, map, replicate, take, slice_get, slice_index, slice_index_or, ⊤}
+use Rattle.std.specs.Prelude.{◌≡◌, ℕ, ◌<◌, true, List, [], ◌∷◌, length, replicate, take, slice_index_or}
 use Rattle.std.specs.List.{sum_by}
 use Rattle.bern_base.specs.declared.letter.Letter.{Letter}
-use Rattle.bern_base.specs.declared.letter.Letter.TheVariants.{Request, Values}
-use Rattle.bern_base.specs.declared.letter.NeedSet.{NeedSet}
 use Rattle.placement.specs.Cyclic.{cyclic_triples}
 use Rattle.rank_scripts.specs.Acts.{posts_to, receiver}
 use Rattle.rank_scripts.specs.Scripts.{Scripts, book, IsNextOf}

@@ -1,5 +1,5 @@
 -- What a rank has still to do at each stage.
-use Rattle.std.specs.Prelude.{◌≡◌, ◌≢◌, ℕ, ◌+◌, ◌-◌, ◌<◌, Bool, true, false, List, [], ◌∷◌, ◌++◌, Option, ⊤}
+use Rattle.std.specs.Prelude.{◌≡◌, ◌≢◌, ℕ, ◌-◌, ◌<◌, Bool, true, false, List, [], ◌∷◌, ◌++◌, Option, ⊤}
 use Rattle.bern_base.specs.declared.letter.Letter.{Letter}
 use Rattle.rank_scripts.specs.Acts.{Act, Work, Post, Wait}
 use Rattle.rank_scripts.specs.Nodes.{Position, has_all, behind}

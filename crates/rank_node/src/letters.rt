@@ -34,7 +34,12 @@ pub(crate) fn values_in(letters: &Items<Letter>) -> &[Val]
 }
 
 /// The Request for these elements of an array to their owner.
-pub(crate) fn request_of(alloc: Global, owner: u32, array: u32, elements: &[u32]) -> Result<Letter, NoMemory>
+pub(crate) fn request_of(
+    alloc: Global,
+    owner: u32,
+    array: u32,
+    elements: &[u32],
+) -> Result<Letter, NoMemory>
     ensures { IfOk result (λ letter. letter ≡ request_of owner array elements.now) }
 {
     let mut sets = Items::new(alloc);

@@ -50,7 +50,11 @@ pub(crate) fn factors(nest: &Nest) -> (u32, u32)
 }
 
 /// The values of each array that is stored whole, by the rank's own numbers of the elements; none for the others.
-pub(crate) fn all_values(alloc: Global, job: &Checked, parts: &[Part]) -> Result<Items<Items<Val>>, NoMemory>
+pub(crate) fn all_values(
+    alloc: Global,
+    job: &Checked,
+    parts: &[Part],
+) -> Result<Items<Items<Val>>, NoMemory>
     requires { (array : ℕ) (part : Part) → slice_get parts.now array ≡ Some part → is_whole job.now array ≡ true → All (IsInside part.matrix.rows part.matrix.cols) part.matrix.entries }
     ensures { IfOk result (λ values. AreHeld job.now parts.now (length parts.now) values) }
 {

@@ -12,8 +12,8 @@ ghost use Rattle.rank_node.specs.Sums.{HaveGrown, inner_term};
 ghost use Rattle.rank_node.specs.Waits.{AreKnown};
 ghost use Rattle.rank_node.specs.NodeStates.{node_of, values_held, IsNode, IsFirstOfRest, IsNextToPost};
 
-use crate::made::{all_values, dealing, empty_lists, factors, no_tallies, stored_entries};
 use crate::letters::{asked_in, request_of, values_in};
+use crate::made::{all_values, dealing, empty_lists, factors, no_tallies, stored_entries};
 use crate::sets::{asked_sets, put_values, values_at};
 use crate::settle::settled;
 use crate::stage::{Stage, Tally, Want};
@@ -52,7 +52,13 @@ impl Node {
     /// The node of a rank at its start. `parts` has the rank's part of each array, by the arrays' numbers.
     ///
     /// After want of memory nothing stands.
-    pub fn new(alloc: Global, job: &Checked, rank: u32, ranks: u32, parts: Items<Part>) -> Result<Node, NoMemory>
+    pub fn new(
+        alloc: Global,
+        job: &Checked,
+        rank: u32,
+        ranks: u32,
+        parts: Items<Part>,
+    ) -> Result<Node, NoMemory>
         ghost run: { Run }
         requires run { IsRun run }
         requires job { IsJobOf run job.now }
@@ -272,12 +278,25 @@ impl Node {
         ensures err { OnErr result (self.new ≡ self.old) }
     {
         let place = self.place();
-        let asks = match asked_sets(alloc, self.entries.as_slice(), self.extent, &place, self.rank, self.ranks) {
+        let asks = match asked_sets(
+            alloc,
+            self.entries.as_slice(),
+            self.extent,
+            &place,
+            self.rank,
+            self.ranks,
+        ) {
             Ok(asks) => asks,
             Err(error) => return Err(error),
         };
         self.asks = asks;
-        self.stage = settled(self.rank, self.ranks, &self.given, &self.asks, Stage::Request { to: 0 });
+        self.stage = settled(
+            self.rank,
+            self.ranks,
+            &self.given,
+            &self.asks,
+            Stage::Request { to: 0 },
+        );
         Ok(())
     }
 
@@ -295,7 +314,13 @@ impl Node {
             Err(error) => return Err(error),
         };
         self.sums = sums;
-        self.stage = settled(self.rank, self.ranks, &self.given, &self.asks, Stage::AwaitValues);
+        self.stage = settled(
+            self.rank,
+            self.ranks,
+            &self.given,
+            &self.asks,
+            Stage::AwaitValues,
+        );
         Ok(())
     }
 
@@ -309,7 +334,13 @@ impl Node {
         let count = self.values.at(self.target as usize).len();
         let mut sums = zeros(alloc, count)?;
         let own = self.values.at(self.source as usize);
-        add_inner(self.entries.as_slice(), &self.place(), self.rank, own.as_slice(), &mut sums);
+        add_inner(
+            self.entries.as_slice(),
+            &self.place(),
+            self.rank,
+            own.as_slice(),
+            &mut sums,
+        );
         Ok(Items::from_vec(sums))
     }
 
@@ -340,8 +371,18 @@ impl Node {
     {
         let known = self.known_values(alloc)?;
         let mut sums = Vec::from_slice(alloc, self.sums.as_slice())?;
-        add_outer(self.entries.as_slice(), &self.place(), self.rank, known.as_slice(), &mut sums);
-        applied(alloc, self.values.at(self.target as usize).as_slice(), sums.as_slice())
+        add_outer(
+            self.entries.as_slice(),
+            &self.place(),
+            self.rank,
+            known.as_slice(),
+            &mut sums,
+        );
+        applied(
+            alloc,
+            self.values.at(self.target as usize).as_slice(),
+            sums.as_slice(),
+        )
     }
 
     /// The values of D that the rank was sent, by element number; 0 at the others.
@@ -353,7 +394,11 @@ impl Node {
     {
         let mut known = zeros(alloc, self.extent as usize)?;
         for from in 0..self.ranks as usize {
-            put_values(self.asks.at(from).as_slice(), values_in(self.given.at(from)), &mut known);
+            put_values(
+                self.asks.at(from).as_slice(),
+                values_in(self.given.at(from)),
+                &mut known,
+            );
         }
         Ok(known)
     }

@@ -11,7 +11,14 @@ use std::alloc::Global;
 /// For each rank the elements that it owns and these entries read, rising; none for the rank itself.
 ///
 /// It takes time linear in the entries, the extent and the ranks.
-pub fn asked_sets<P: Placement>(alloc: Global, entries: &[Entry], extent: u32, place: &P, rank: u32, ranks: u32) -> Result<Items<Items<u32>>, NoMemory>
+pub fn asked_sets<P: Placement>(
+    alloc: Global,
+    entries: &[Entry],
+    extent: u32,
+    place: &P,
+    rank: u32,
+    ranks: u32,
+) -> Result<Items<Items<u32>>, NoMemory>
     requires extent { length (P.triples place.now) ≡ extent }
     requires ranks { P.ranks place.now ≡ ranks }
     requires cols { All (λ e. e.col < extent) entries.now }
@@ -43,7 +50,13 @@ fn marks(alloc: Global, entries: &[Entry], extent: u32) -> Result<Vec<bool>, NoM
 }
 
 /// The values of elements that the rank owns.
-pub fn values_at<P: Placement>(alloc: Global, elements: &[u32], place: &P, rank: u32, own: &[Val]) -> Result<Items<Val>, NoMemory>
+pub fn values_at<P: Placement>(
+    alloc: Global,
+    elements: &[u32],
+    place: &P,
+    rank: u32,
+    own: &[Val],
+) -> Result<Items<Val>, NoMemory>
     requires elements { All (λ w. w < length (P.triples place.now)) elements.now }
     requires owned { All (λ w. owner_of (P.triples place.now) w ≡ rank) elements.now }
     requires own { length own.now ≡ owned_of (P.triples place.now) rank }

@@ -10,7 +10,13 @@ use crate::stage::Stage;
 use bern_base::{Items, Letter};
 
 /// The stage at which a rank stops that has come to this one, behind each wait that it can pass.
-pub(crate) fn settled(rank: u32, ranks: u32, given: &Items<Items<Letter>>, asks: &Items<Items<u32>>, stage: Stage) -> Stage
+pub(crate) fn settled(
+    rank: u32,
+    ranks: u32,
+    given: &Items<Items<Letter>>,
+    asks: &Items<Items<u32>>,
+    stage: Stage,
+) -> Stage
     ghost run: { Run }
     requires rank { rank < run.ranks }
     requires ranks { ranks ≡ run.ranks }

@@ -4,14 +4,10 @@ pub enum Stage {
     /// It has still to find what it needs.
     Inspect,
     /// It posts its Request to this rank.
-    Request {
-        to: u32,
-    },
+    Request { to: u32 },
     AwaitRequests,
     /// It posts values to this rank.
-    Values {
-        to: u32,
-    },
+    Values { to: u32 },
     /// It has still to sum over the points that need no other rank.
     Inner,
     AwaitValues,
@@ -24,9 +20,7 @@ pub enum Stage {
 #[derive(Clone, Copy, Debug, PartialEq, Eq)]
 pub enum Want {
     Work,
-    Post {
-        to: u32,
-    },
+    Post { to: u32 },
     /// It waits for a letter that it has not taken.
     Letter,
     Done,

@@ -32,7 +32,13 @@ pub fn dense_values(alloc: Global, matrix: &Matrix) -> Result<Items<Val>, NoMemo
 }
 
 /// Adds to each sum its products at the points that read an element of the rank itself.
-pub(crate) fn add_inner<P: Placement>(entries: &[Entry], place: &P, rank: u32, own: &[Val], sums: &mut Vec<Val>)
+pub(crate) fn add_inner<P: Placement>(
+    entries: &[Entry],
+    place: &P,
+    rank: u32,
+    own: &[Val],
+    sums: &mut Vec<Val>,
+)
     requires rows { All (λ e. e.row < length sums.old.items) entries.now }
     requires cols { All (λ e. e.col < length (P.triples place.now)) entries.now }
     requires own { length own.now ≡ owned_of (P.triples place.now) rank }
@@ -48,7 +54,13 @@ pub(crate) fn add_inner<P: Placement>(entries: &[Entry], place: &P, rank: u32, o
 }
 
 /// Adds to each sum its products at the other points, with the values of the elements that they read.
-pub(crate) fn add_outer<P: Placement>(entries: &[Entry], place: &P, rank: u32, known: &[Val], sums: &mut Vec<Val>)
+pub(crate) fn add_outer<P: Placement>(
+    entries: &[Entry],
+    place: &P,
+    rank: u32,
+    known: &[Val],
+    sums: &mut Vec<Val>,
+)
     requires rows { All (λ e. e.row < length sums.old.items) entries.now }
     requires cols { All (λ e. e.col < length (P.triples place.now)) entries.now }
     requires known { length known.now ≡ length (P.triples place.now) }

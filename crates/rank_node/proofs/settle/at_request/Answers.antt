@@ -1,4 +1,4 @@
-use Rattle.std.proofs.Common.{ℕ, sym, ◌≡◌, ◌<◌, ◌+◌, subst, arith}
+use Rattle.std.proofs.Common.{ℕ, sym, ◌≡◌, ◌+◌, subst, arith}
 use Rattle.rank_node.specs.Positions.{from_requests}
 use Rattle.rank_node.specs.Waits.{letters_from}
 use Rattle.rank_node.proofs.PositionLemmas.{goes_request, request_own}

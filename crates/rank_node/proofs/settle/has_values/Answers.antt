@@ -1,4 +1,4 @@
-use Rattle.std.proofs.Common.{◌≡◌, ℕ, ◌+◌, ◌<◌, ◌≤◌, true, false, nat_le, List, [], length, refl, sym, ap, ◌∙◌, subst, arith}
+use Rattle.std.proofs.Common.{◌≡◌, ℕ, ◌<◌, true, nat_le, [], length, sym, ap, ◌∙◌, subst, arith}
 use Rattle.rank_scripts.specs.Scripts.{named}
 use Rattle.rank_model.specs.Letters.{scripts}
 use Rattle.rank_node.specs.Waits.{letters_from}

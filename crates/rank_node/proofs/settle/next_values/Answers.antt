@@ -1,4 +1,4 @@
-use Rattle.std.proofs.Common.{◌≡◌, ℕ, ◌+◌, ◌<◌, ◌≤◌, true, false, List, [], length, refl, sym, ap, ◌∙◌, subst, arith}
+use Rattle.std.proofs.Common.{◌≡◌, ℕ, ◌+◌, ◌<◌, [], length, sym, ap, ◌∙◌, subst, arith}
 use Rattle.std.proofs.lemmas.Bool.{false≢true, eq-eqb, eqb-true}
 use Rattle.std.proofs.lemmas.List.{nil_from_length}
 use Rattle.rank_node.specs.Positions.{from_values}
@@ -28,7 +28,7 @@ loop-to-preserved g c =
     let below : to < g.run.ranks = omega arith in
     let P : ℕ → Type 0 = λ k. from_values g.run r k ≡ from_values g.run r (k + 1) in
     c.loop-to.invariant ∙ (elim c.else-to-rank.branch [
-      | else-to-rank-via-then-to-rank+else-not-is_empty w ↦ 
+      | else-to-rank-via-then-to-rank+else-not-is_empty w ↦
           let asked : asked_in (letters_from c.args.given.now to) ≡ send g.run r to = asked_is g.run r to (letters_from c.args.given.now) c.requires.0 below w.if-to-rank.true c.requires.1.1.1.1 (c.requires.1.1.1.0 to below) in
           let read : letters_from c.args.given.now to ≡ w.at.result.now = get_or-read_at c.args.given.now to w.at.result.now [] w.at.ensures in
           let slice : send g.run r to ≡ w.asked_in.result.now = sym asked ∙ ap asked_in read ∙ sym w.asked_in.ensures in

@@ -1,5 +1,5 @@
 -- No rank so far is due values.
-use Rattle.std.proofs.Common.{◌≡◌, ◌≤◌}
+use Rattle.std.proofs.Common.{◌≡◌}
 use Rattle.rank_node.specs.Positions.{from_values}
 use Rattle.rank_node.proofs.settle.next_values.Given as goal
 

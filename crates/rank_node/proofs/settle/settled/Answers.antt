@@ -1,4 +1,4 @@
-use Rattle.std.proofs.Common.{ℕ, List, sym, subst}
+use Rattle.std.proofs.Common.{sym, subst}
 use Rattle.rank_node.specs.declared.stage.Stage.{Stage}
 use Rattle.rank_node.specs.Positions.{GoesTo}
 use Rattle.rank_node.specs.Waits.{letters_from}

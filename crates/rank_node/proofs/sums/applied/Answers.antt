@@ -1,4 +1,4 @@
-use Rattle.std.proofs.Common.{sym, ap, ◌∙◌, arith}
+use Rattle.std.proofs.Common.{arith}
 use Rattle.rank_node.proofs.SumLemmas.{sums_push}
 use Rattle.rank_node.proofs.sums.applied.Goals as goal
 

@@ -1,6 +1,6 @@
-use Rattle.std.proofs.Common.{◌≡◌, ◌<◌, ◌≤◌, ℕ, List, [], length, map, replicate, sym, ap, ◌∙◌, subst, arith}
+use Rattle.std.proofs.Common.{◌≡◌, ◌<◌, ℕ, List, length, sym, ap, ◌∙◌, subst}
 use Rattle.std.specs.List.{All}
-use Rattle.std.proofs.lemmas.List.{length-map, length-replicate}
+use Rattle.std.proofs.lemmas.List.{length-map}
 use Rattle.bern_base.specs.declared.matrix.Entry.{Entry}
 use Rattle.dense_model.specs.State.{read}
 use Rattle.placement.specs.Placement.{Triple, owned_indices, owned_of}
@@ -9,7 +9,7 @@ use Rattle.std.proofs.lemmas.Result.{IfOk-weaker}
 use Rattle.rank_model.specs.Runs.{answer_part}
 use Rattle.rank_node.specs.Positions.{state_of, is_summed}
 use Rattle.rank_node.specs.NodeStates.{values_held}
-use Rattle.rank_node.specs.Sums.{HaveGrown, inner_term, sums_of}
+use Rattle.rank_node.specs.Sums.{sums_of}
 use Rattle.rank_node.proofs.EndLemmas.{end_part}
 use Rattle.rank_node.proofs.NodeKept.{held_source}
 use Rattle.rank_node.proofs.WorkLemmas.{entries_rows, entries_cols, outer_grown, own_target, inner_sums_long, inner_kept}

@@ -1,14 +1,10 @@
-use Rattle.std.proofs.Common.{◌≡◌, ◌<◌, ◌≤◌, ℕ, List, [], length, map, replicate, sym, ap, ◌∙◌, subst, arith}
+use Rattle.std.proofs.Common.{◌≡◌, ◌<◌, ℕ, List, [], length, map, sym, ap, ◌∙◌, subst, arith}
 use Rattle.std.specs.List.{All}
-use Rattle.std.proofs.lemmas.List.{length-map, length-replicate}
-use Rattle.bern_base.specs.declared.matrix.Entry.{Entry}
+use Rattle.std.proofs.lemmas.List.{length-map}
 use Rattle.dense_model.specs.State.{read}
-use Rattle.placement.specs.Placement.{Triple, owned_indices, owned_of}
-use Rattle.placement.proofs.IndexLemmas.{length-owned_indices}
 use Rattle.rank_model.specs.Sets.{receive}
 use Rattle.rank_node.specs.Letters.{nest_values}
 use Rattle.rank_node.specs.Positions.{is_inspected}
-use Rattle.rank_node.specs.Waits.{letters_from}
 use Rattle.rank_node.proofs.ListLemmas.{get_or-read_at}
 use Rattle.rank_node.proofs.SourceLemmas.{received_below}
 use Rattle.rank_node.proofs.KnownLemmas.{known_none, known_more, received_values}

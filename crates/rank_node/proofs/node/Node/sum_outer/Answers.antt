@@ -1,7 +1,5 @@
-use Rattle.std.proofs.Common.{subst, sym}
 use Rattle.rank_node.specs.declared.stage.Stage.TheVariants.{Done}
-use Rattle.rank_node.proofs.WorkLemmas.{outer_leaves, after_work, worked_kept}
-use Rattle.rank_node.specs.NodeStates.{IsNode}
+use Rattle.rank_node.proofs.WorkLemmas.{outer_leaves, worked_kept}
 use Rattle.rank_node.proofs.node.Node.sum_outer.Goals as goal
 
 pub returns-clause-node : goal.returns-clause-node

@@ -1,6 +1,5 @@
-use Rattle.std.proofs.Common.{◌⊎◌, inl, inr}
+use Rattle.std.proofs.Common.{inl, inr}
 use Rattle.rank_node.proofs.WorkLemmas.{works_at}
-use Rattle.rank_node.proofs.EndLemmas.{end_part}
 use Rattle.rank_node.proofs.node.Node.work.Goals as goal
 
 pub unreachable-requires : goal.unreachable-requires

@@ -1,0 +1,25 @@
+use Rattle.std.proofs.Common.{sym, ◌∙◌, arith}
+use Rattle.interleave.specs.Worlds.{world_in}
+use Rattle.interleave.proofs.EventLemmas.{start_left, done_left, total_small, all_at_end}
+use Rattle.interleave.proofs.turns.replay.Goals as goal
+
+pub turns-init : goal.turns-init
+turns-init g c =
+    let first = start_left g.run (world_in g.run c.args.world.nodes c.args.world.boxes) c.requires.1 in
+    record { fit = c.requires.0; counted = omega arith }
+
+pub overflow_add-count : goal.overflow_add-count
+overflow_add-count g c =
+    let small = total_small g.run c.requires.0.run_is in
+    let counted = c.turns.invariant.counted in
+    let left = c.in-Ok.ensures.left in
+    omega arith
+
+pub returns-clause-events : goal.returns-clause-events
+returns-clause-events g c =
+    let none = done_left g.run (world_in g.run c.turns.world.nodes c.turns.world.boxes) c.turns.invariant.fit.fit (sym c.done.ensures ∙ c.turns-test.false) in
+    let counted = c.turns.invariant.counted in
+    omega arith
+
+pub returns-clause-end : goal.returns-clause-end
+returns-clause-end g c = all_at_end g.run c.turns.world.nodes c.turns.world.boxes c.turns.invariant.fit (sym c.done.ensures ∙ c.turns-test.false)

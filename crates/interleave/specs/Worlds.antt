@@ -1,0 +1,107 @@
+-- A world of nodes, as the world of the ranks of a run that it is.
+use Rattle.std.specs.Prelude.{◌≡◌, ℕ, ◌<◌, Bool, true, false, List, [], ◌∷◌, ◌++◌, Option, Some, None, length, map, filter, take, slice_get, slice_index_or, slice_set}
+use Rattle.std.specs.List.{All, range_with_len, flat_map}
+use Rattle.bern_base.specs.declared.letter.Letter.{Letter}
+use Rattle.rank_scripts.specs.Acts.{at_end, receiver}
+use Rattle.rank_scripts.specs.Nodes.{fresh}
+use Rattle.rank_scripts.specs.Nodes as scripted
+use Rattle.rank_scripts.specs.Worlds.{Works, Posts, Takes, Fit, can}
+use Rattle.rank_scripts.specs.Worlds as worlds
+use Rattle.rank_model.specs.Runs.{Run, IsRun, part_values}
+use Rattle.rank_model.specs.States.{end_state}
+use Rattle.rank_model.specs.Letters.{scripts}
+use Rattle.rank_node.specs.declared.node.Node.{Node}
+use Rattle.rank_node.specs.declared.stage.Want.{Want}
+use Rattle.rank_node.specs.declared.stage.Want.TheVariants as want
+use Rattle.rank_node.specs.NodeStates.{node_of, values_held, IsNode}
+use Rattle.interleave.specs.declared.event.Event.{Event}
+use Rattle.interleave.specs.declared.event.Event.TheVariants.{Work, Post, Take}
+
+-- an event of the scripts
+abbrev pub event_of : Event → worlds.Event
+event_of (Work rank) = Works rank
+event_of (Post rank) = Posts rank
+event_of (Take rank from) = Takes rank from
+
+-- the rank that a node is; one that is not there stands at its start
+abbrev pub node_or : Run → ℕ → Option Node → scripted.Node Letter
+node_or run r None = fresh (scripts run) r
+node_or run r (Some n) = node_of run n
+
+abbrev pub node_in : Run → List Node → ℕ → scripted.Node Letter
+node_in run nodes r = node_or run r (slice_get nodes r)
+
+-- the letters in flight, by sender and receiver
+abbrev pub flight_in : List (List (List Letter)) → ℕ → ℕ → List Letter
+flight_in boxes p q = slice_index_or (slice_index_or boxes p []) q []
+
+abbrev pub world_in : Run → List Node → List (List (List Letter)) → worlds.World Letter
+world_in run nodes boxes = record { node = node_in run nodes; flight = flight_in boxes }
+
+-- node r is rank r of the run
+pub record IsRank (run : Run) (r : ℕ) (n : Node) : Type 0 where
+  pub rank : n.rank ≡ r
+  pub node : IsNode run n
+
+-- one node for each rank, one box for each pair, and all fit
+pub record IsFit (run : Run) (nodes : List Node) (boxes : List (List (List Letter))) : Type 0 where
+  pub run_is : IsRun run
+  pub count : length nodes ≡ run.ranks
+  pub nodes_are : (r : ℕ) (n : Node) → slice_get nodes r ≡ Some n → IsRank run r n
+  pub rows : length boxes ≡ run.ranks
+  pub row : All (λ row. length row ≡ run.ranks) boxes
+  pub fit : Fit (scripts run) (world_in run nodes boxes)
+
+-- all events that there could be, by rank, and then work, post, and takes by sender
+abbrev pub events_of : ℕ → ℕ → List worlds.Event
+events_of ranks r = Works r ∷ Posts r ∷ map (Takes r) (range_with_len 0 ranks)
+
+abbrev pub all_events : ℕ → List worlds.Event
+all_events ranks = flat_map (events_of ranks) (range_with_len 0 ranks)
+
+-- those that are enabled
+abbrev pub enabled_events : Run → worlds.World Letter → List worlds.Event
+enabled_events run w = filter (can (scripts run) w) (all_events run.ranks)
+
+-- one new node for each rank
+pub record IsStart (run : Run) (nodes : List Node) : Type 0 where
+  pub count : length nodes ≡ run.ranks
+  pub nodes_are : (r : ℕ) (n : Node) → slice_get nodes r ≡ Some n → IsRank run r n
+  pub fresh_are : (r : ℕ) (n : Node) → slice_get nodes r ≡ Some n → node_of run n ≡ fresh (scripts run) r
+
+-- the letter that rank r posts stands behind those in flight to its receiver
+pub record IsPosted (run : Run) (r : ℕ) (n : Node) (old new : List (List (List Letter))) : Type 0 where
+  pub to : ℕ
+  pub letter : Letter
+  pub receives : receiver (node_of run n).todo ≡ to
+  pub within : to < run.ranks
+  pub first : take 1 ((node_of run n).rest (receiver (node_of run n).todo)) ≡ letter ∷ []
+  pub boxes : new ≡ slice_set old r (slice_set (slice_index_or old r []) to (slice_index_or (slice_index_or old r []) to [] ++ letter ∷ []))
+
+abbrev pub is_work : Want → Bool
+is_work want.Work = true
+is_work (want.Post to) = false
+is_work want.Letter = false
+is_work want.Done = false
+
+abbrev pub is_post : Want → Bool
+is_post want.Work = false
+is_post (want.Post to) = true
+is_post want.Letter = false
+is_post want.Done = false
+
+abbrev pub is_end : Want → Bool
+is_end want.Work = false
+is_end (want.Post to) = false
+is_end want.Letter = false
+is_end want.Done = true
+
+-- the event stands among these
+pub record IsAmong (event : Event) (events : List Event) : Type 0 where
+  pub place : ℕ
+  pub at : slice_get events place ≡ Some event
+
+-- each node is done, and what it holds is its rank's part of the state at the end
+pub record AreAtEnd (run : Run) (nodes : List Node) : Type 0 where
+  pub done : (r : ℕ) (n : Node) → slice_get nodes r ≡ Some n → at_end (node_of run n).todo ≡ true
+  pub parts : (r array : ℕ) (n : Node) → slice_get nodes r ≡ Some n → run.dense array ≡ true → values_held n array ≡ part_values run (end_state run) array r

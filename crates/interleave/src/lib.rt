@@ -1,0 +1,13 @@
+//! A world of ranks: what may happen next, one event after another, and a replay of a whole run.
+//!
+//! Ranks count from 0.
+#![tactic(auto)]
+
+mod boxes;
+mod event;
+mod turns;
+mod world;
+
+pub use event::{Event, StepError};
+pub use turns::replay;
+pub use world::World;

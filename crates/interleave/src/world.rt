@@ -1,0 +1,290 @@
+ghost use Rattle.std.specs.Prelude.{◌≡◌, ◌<◌, ℕ, true, false, Some, length, slice_get, slice_index_or, [], ◌∷◌, ◌++◌, map, filter, IfOk, OnOk, OnErr, IsErrOf, ◌↔◌};
+ghost use Rattle.rank_scripts.specs.Acts.{at_work, at_post, at_end};
+ghost use Rattle.rank_scripts.specs.Nodes.{posted};
+ghost use Rattle.rank_scripts.specs.Worlds.{Works, Posts, Takes, can, happens, start, done};
+ghost use Rattle.rank_model.specs.Runs.{Run, IsRun};
+ghost use Rattle.rank_model.specs.Letters.{scripts};
+ghost use Rattle.rank_node.specs.declared.node.Node.{Node};
+ghost use Rattle.rank_node.specs.NodeStates.{node_of};
+ghost use Rattle.interleave.specs.Worlds.{node_in, flight_in, world_in, event_of, is_work, is_post, is_end, events_of, enabled_events, IsRank, IsFit, IsStart, IsPosted};
+
+use crate::boxes::Boxes;
+use crate::event::{Event, StepError};
+use bern_base::{Items, NoMemory};
+use rank_node::{Node, Want};
+use std::alloc::Global;
+
+fn is_work(want: Want) -> bool
+    ensures { result ≡ is_work want }
+{
+    matches!(want, Want::Work)
+}
+
+fn is_end(want: Want) -> bool
+    ensures { result ≡ is_end want }
+{
+    matches!(want, Want::Done)
+}
+
+fn is_post(want: Want) -> bool
+    ensures { result ≡ is_post want }
+{
+    matches!(want, Want::Post { .. })
+}
+
+/// The nodes of a run and the letters in flight between them.
+///
+/// Its calls are spoken of over a run that contracts alone see. `IsFit` is what each call needs of a world and keeps.
+#[derive(Debug, Drop)]
+pub struct World {
+    nodes: Items<Node>,
+    boxes: Boxes,
+}
+
+impl World {
+    /// The world of these nodes, one for each rank and all new, with nothing in flight.
+    pub fn new(alloc: Global, nodes: Items<Node>) -> Result<World, NoMemory>
+        ghost run: { Run }
+        requires run { IsRun run }
+        requires nodes { IsStart run nodes }
+        ensures fit { IfOk result (λ w. IsFit run w.nodes w.boxes) }
+        ensures start { IfOk result (λ w. world_in run w.nodes w.boxes ≡ start (scripts run)) }
+    {
+        let boxes = Boxes::new(alloc, nodes.len() as u32)?;
+        Ok(World { nodes, boxes })
+    }
+
+    /// The nodes, by rank.
+    pub fn nodes(&self) -> &Items<Node>
+        ensures { result.now ≡ self.now.nodes }
+    {
+        &self.nodes
+    }
+
+    fn wants_work(&self, rank: u32) -> bool
+        ghost run: { Run }
+        requires { IsFit run self.now.nodes self.now.boxes }
+        ensures { result ≡ can (scripts run) (world_in run self.now.nodes self.now.boxes) (Works rank) }
+    {
+        match self.nodes.get(rank as usize) {
+            Some(node) => is_work(node.want()),
+            None => false,
+        }
+    }
+
+    fn wants_post(&self, rank: u32) -> bool
+        ghost run: { Run }
+        requires { IsFit run self.now.nodes self.now.boxes }
+        ensures { result ≡ can (scripts run) (world_in run self.now.nodes self.now.boxes) (Posts rank) }
+    {
+        match self.nodes.get(rank as usize) {
+            Some(node) => is_post(node.want()),
+            None => false,
+        }
+    }
+
+    fn can_take(&self, rank: u32, from: u32) -> bool
+        ghost run: { Run }
+        requires { IsFit run self.now.nodes self.now.boxes }
+        ensures { result ≡ can (scripts run) (world_in run self.now.nodes self.now.boxes) (Takes rank from) }
+    {
+        let ranks = self.nodes.len();
+        (rank as usize) < ranks && (from as usize) < ranks && !self.boxes.is_empty(from, rank)
+    }
+
+    fn is_done(&self, rank: u32) -> bool
+        ghost run: { Run }
+        requires fit { IsFit run self.now.nodes self.now.boxes }
+        requires rank { rank < run.ranks }
+        ensures { result ≡ at_end (node_in run self.now.nodes rank).todo }
+    {
+        is_end(self.nodes.at(rank as usize).want())
+    }
+
+    /// Whether every rank is done.
+    pub fn done(&self) -> bool
+        ghost run: { Run }
+        requires { IsFit run self.now.nodes self.now.boxes }
+        ensures { result ≡ done (scripts run) (world_in run self.now.nodes self.now.boxes) }
+    {
+        let ranks = self.nodes.len() as u32;
+        for rank in 0..ranks {
+            if !self.is_done(rank) {
+                return false;
+            }
+        }
+        true
+    }
+
+    /// The events that are enabled, by rank, and then work, post, and takes by sender.
+    pub fn enabled(&self, alloc: Global) -> Result<Items<Event>, NoMemory>
+        ghost run: { Run }
+        requires { IsFit run self.now.nodes self.now.boxes }
+        ensures { IfOk result (λ events. map event_of events ≡ enabled_events run (world_in run self.now.nodes self.now.boxes)) }
+    {
+        let ranks = self.nodes.len() as u32;
+        let mut events = Items::new(alloc);
+        for rank in 0..ranks {
+            match self.push_events(rank, ranks, &mut events) {
+                Ok(()) => {}
+                Err(error) => return Err(error),
+            }
+        }
+        Ok(events)
+    }
+
+    fn push_events(&self, rank: u32, ranks: u32, events: &mut Items<Event>) -> Result<(), NoMemory>
+        ghost run: { Run }
+        requires fit { IsFit run self.now.nodes self.now.boxes }
+        requires ranks { ranks ≡ run.ranks }
+        ensures { OnOk result (map event_of events.new ≡ map event_of events.old ++ filter (can (scripts run) (world_in run self.now.nodes self.now.boxes)) (events_of run.ranks rank)) }
+    {
+        match self.push_enabled(Event::Work { rank }, events) {
+            Ok(()) => {}
+            Err(error) => return Err(error),
+        }
+        match self.push_enabled(Event::Post { rank }, events) {
+            Ok(()) => {}
+            Err(error) => return Err(error),
+        }
+        for from in 0..ranks {
+            match self.push_enabled(Event::Take { rank, from }, events) {
+                Ok(()) => {}
+                Err(error) => return Err(error),
+            }
+        }
+        Ok(())
+    }
+
+    /// Appends an event if it is enabled.
+    fn push_enabled(&self, event: Event, events: &mut Items<Event>) -> Result<(), NoMemory>
+        ghost run: { Run }
+        requires { IsFit run self.now.nodes self.now.boxes }
+        ensures { OnOk result (map event_of events.new ≡ map event_of events.old ++ filter (can (scripts run) (world_in run self.now.nodes self.now.boxes)) (event_of event ∷ [])) }
+    {
+        if self.is_enabled(event) {
+            events.push(event)
+        } else {
+            Ok(())
+        }
+    }
+
+    fn is_enabled(&self, event: Event) -> bool
+        ghost run: { Run }
+        requires { IsFit run self.now.nodes self.now.boxes }
+        ensures { result ≡ can (scripts run) (world_in run self.now.nodes self.now.boxes) (event_of event) }
+    {
+        match event {
+            Event::Work { rank } => self.wants_work(rank),
+            Event::Post { rank } => self.wants_post(rank),
+            Event::Take { rank, from } => self.can_take(rank, from),
+        }
+    }
+
+    /// Lets an event happen. `NotEnabled` comes exactly where it is not enabled. After either refusal the world is as
+    /// before.
+    pub fn step(&mut self, alloc: Global, event: Event) -> Result<(), StepError>
+        ghost run: { Run }
+        requires { IsFit run self.old.nodes self.old.boxes }
+        ensures fit { OnOk result (IsFit run self.new.nodes self.new.boxes) }
+        ensures ok { OnOk result (world_in run self.new.nodes self.new.boxes ≡ happens (scripts run) (world_in run self.old.nodes self.old.boxes) (event_of event)) }
+        ensures refused { IsErrOf result StepError.NotEnabled ↔ (can (scripts run) (world_in run self.old.nodes self.old.boxes) (event_of event) ≡ false) }
+        ensures err { OnErr result (self.new ≡ self.old) }
+    {
+        if !self.is_enabled(event) {
+            return Err(StepError::NotEnabled);
+        }
+        match self.happen(alloc, event) {
+            Ok(()) => Ok(()),
+            Err(_) => Err(StepError::NoMemory),
+        }
+    }
+
+    fn happen(&mut self, alloc: Global, event: Event) -> Result<(), NoMemory>
+        ghost run: { Run }
+        requires fit { IsFit run self.old.nodes self.old.boxes }
+        requires enabled { can (scripts run) (world_in run self.old.nodes self.old.boxes) (event_of event) ≡ true }
+        ensures fit { OnOk result (IsFit run self.new.nodes self.new.boxes) }
+        ensures ok { OnOk result (world_in run self.new.nodes self.new.boxes ≡ happens (scripts run) (world_in run self.old.nodes self.old.boxes) (event_of event)) }
+        ensures err { OnErr result (self.new ≡ self.old) }
+    {
+        match event {
+            Event::Work { rank } => self.work(alloc, rank),
+            Event::Post { rank } => self.post(alloc, rank),
+            Event::Take { rank, from } => self.take(alloc, rank, from),
+        }
+    }
+
+    fn work(&mut self, alloc: Global, rank: u32) -> Result<(), NoMemory>
+        ghost run: { Run }
+        requires fit { IsFit run self.old.nodes self.old.boxes }
+        requires enabled { can (scripts run) (world_in run self.old.nodes self.old.boxes) (Works rank) ≡ true }
+        ensures fit { OnOk result (IsFit run self.new.nodes self.new.boxes) }
+        ensures ok { OnOk result (world_in run self.new.nodes self.new.boxes ≡ happens (scripts run) (world_in run self.old.nodes self.old.boxes) (Works rank)) }
+        ensures err { OnErr result (self.new ≡ self.old) }
+    {
+        let mut nodes = std::mem::replace(&mut self.nodes, Items::new(alloc)).into_vec();
+        let done = nodes[rank as usize].work(alloc);
+        self.nodes = Items::from_vec(nodes);
+        done
+    }
+
+    fn post(&mut self, alloc: Global, rank: u32) -> Result<(), NoMemory>
+        ghost run: { Run }
+        requires fit { IsFit run self.old.nodes self.old.boxes }
+        requires enabled { can (scripts run) (world_in run self.old.nodes self.old.boxes) (Posts rank) ≡ true }
+        ensures fit { OnOk result (IsFit run self.new.nodes self.new.boxes) }
+        ensures ok { OnOk result (world_in run self.new.nodes self.new.boxes ≡ happens (scripts run) (world_in run self.old.nodes self.old.boxes) (Posts rank)) }
+        ensures err { OnErr result (self.new ≡ self.old) }
+    {
+        let mut nodes = std::mem::replace(&mut self.nodes, Items::new(alloc)).into_vec();
+        let done = post_letter(&mut nodes[rank as usize], &mut self.boxes, alloc, rank);
+        self.nodes = Items::from_vec(nodes);
+        done
+    }
+
+    fn take(&mut self, alloc: Global, rank: u32, from: u32) -> Result<(), NoMemory>
+        ghost run: { Run }
+        requires fit { IsFit run self.old.nodes self.old.boxes }
+        requires enabled { can (scripts run) (world_in run self.old.nodes self.old.boxes) (Takes rank from) ≡ true }
+        ensures fit { OnOk result (IsFit run self.new.nodes self.new.boxes) }
+        ensures ok { OnOk result (world_in run self.new.nodes self.new.boxes ≡ happens (scripts run) (world_in run self.old.nodes self.old.boxes) (Takes rank from)) }
+        ensures err { OnErr result (self.new ≡ self.old) }
+    {
+        let mut nodes = std::mem::replace(&mut self.nodes, Items::new(alloc)).into_vec();
+        let done = self.boxes.deliver(from, rank, &mut nodes[rank as usize]);
+        self.nodes = Items::from_vec(nodes);
+        done
+    }
+}
+
+/// Puts the letter that a node posts in flight, and moves the node on.
+fn post_letter(node: &mut Node, boxes: &mut Boxes, alloc: Global, rank: u32) -> Result<(), NoMemory>
+    ghost run: { Run }
+    requires node { IsRank run rank node.old }
+    requires post { at_post (node_of run node.old).todo ≡ true }
+    requires row { rank < length boxes.old }
+    requires column { (to : ℕ) → to < run.ranks → to < length (slice_index_or boxes.old rank []) }
+    ensures node { OnOk result (IsRank run rank node.new) }
+    ensures moved { OnOk result (node_of run node.new ≡ posted (scripts run) rank (node_of run node.old)) }
+    ensures boxes { OnOk result (IsPosted run rank node.old boxes.old boxes.new) }
+    ensures err { OnErr result (node.new ≡ node.old) }
+    ensures kept { OnErr result (boxes.new ≡ boxes.old) }
+{
+    match node.want() {
+        Want::Post { to } => {
+            let letter = match node.letter(alloc) {
+                Ok(letter) => letter,
+                Err(error) => return Err(error),
+            };
+            match boxes.push(rank, to, letter) {
+                Ok(()) => {
+                    node.posted();
+                    Ok(())
+                }
+                Err(error) => Err(error),
+            }
+        }
+        _ => unreachable!(),
+    }
+}
