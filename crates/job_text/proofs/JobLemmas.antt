@@ -1,5 +1,5 @@
 -- Jobs: the steps of a reader of lines, and that bytes have one meaning.
-use Rattle.std.proofs.Common.{◌≡◌, ℕ, suc, ◌+◌, ◌<◌, Bool, true, false, Option, Some, None, List, [], ◌∷◌, ◌++◌, MatchBool, length, get_or, drop, append_assoc, append-nil, refl, sym, ap, subst, ◌∙◌, arith}
+use Rattle.std.proofs.Common.{◌≡◌, ℕ, ◌+◌, Bool, true, false, Option, Some, None, List, [], ◌∷◌, ◌++◌, MatchBool, append_assoc, append-nil, refl, sym, ap, subst, ◌∙◌}
 use Rattle.bern_base.specs.declared.raw.Form.{Form}
 use Rattle.bern_base.specs.declared.raw.JobLine.{JobLine}
 use Rattle.job_text.specs.Lines.{lines, said, is_some_text}

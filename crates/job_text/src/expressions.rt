@@ -2,7 +2,7 @@ ghost use Rattle.std.specs.Prelude.{◌≡◌, ◌<◌, ℕ, option_map, length,
 ghost use Rattle.job_text.specs.NestReading.{list_at, sign_at, star_at, factor_at, factors_at, product_at, products_at, expr_at};
 ghost use Rattle.job_text.specs.Reading.{Gives, seen, behind};
 
-use crate::lists::with_last;
+use crate::lists::{with_last, with_next};
 use crate::stop::Stop;
 use crate::sums::{first_sign, next_sign, reference};
 use crate::tokens::{Mark, Token};
@@ -46,7 +46,7 @@ fn products<'a>(
         let (product, after) = product(alloc, levels, minus, rest)?;
         match next_sign(after) {
             Some((sign, next)) => {
-                products.push(product)?;
+                products = with_next(products, product)?;
                 minus = sign;
                 rest = next;
             }
@@ -86,7 +86,7 @@ fn factors<'a>(
         let (factor, after) = factor(alloc, levels, rest)?;
         match next_star(after) {
             Some(next) => {
-                factors.push(factor)?;
+                factors = with_next(factors, factor)?;
                 rest = next;
             }
             None => return Ok((with_last(factors, factor)?, after)),

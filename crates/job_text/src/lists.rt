@@ -11,3 +11,15 @@ pub(crate) fn with_last<T: Drop>(list: Items<T>, last: T) -> Result<Items<T>, No
     whole.push_reserved(last);
     Ok(Items::from_vec(whole))
 }
+
+/// A list with one more item behind the others, of a list that goes on: the first two come into the first room.
+pub(crate) fn with_next<T: Drop>(list: Items<T>, next: T) -> Result<Items<T>, NoMemory>
+    ensures { IfOk result (λ longer. longer ≡ list ++ next ∷ []) }
+{
+    let mut longer = list.into_vec();
+    if longer.is_empty() {
+        longer.reserve_exact(2)?;
+    }
+    longer.push(next)?;
+    Ok(Items::from_vec(longer))
+}

@@ -3,7 +3,7 @@ ghost use Rattle.job_text.specs.NestReading.{span_at, to_at, vars_at, vars_from,
 ghost use Rattle.job_text.specs.Reading.{Gives, seen, behind, named};
 
 use crate::expressions::expression;
-use crate::lists::with_last;
+use crate::lists::{with_last, with_next};
 use crate::stop::Stop;
 use crate::sums::{reference, sum};
 use crate::tokens::{Mark, Name, Token};
@@ -106,7 +106,7 @@ fn variables_from<'a>(
         let (var, after) = span(alloc, name, rest)?;
         match next_name(after) {
             Some((next, more)) => {
-                vars.push(var)?;
+                vars = with_next(vars, var)?;
                 name = next;
                 rest = more;
             }
@@ -168,7 +168,7 @@ fn guards_from<'a>(
         let (guard, after) = guard(alloc, rest)?;
         match next_comma(after) {
             Some(next) => {
-                guards.push(guard)?;
+                guards = with_next(guards, guard)?;
                 rest = next;
             }
             None => return Ok((with_last(guards, guard)?, after)),

@@ -2,7 +2,7 @@ ghost use Rattle.std.specs.Prelude.{◌≡◌, ◌<◌, ◌≤◌, Some, option_
 ghost use Rattle.job_text.specs.NestReading.{limited_item, item_at, items_at, sign_at, first_sign, sum_at, second_at, subs_at, closed_at, ref_at};
 ghost use Rattle.job_text.specs.Reading.{Gives, seen};
 
-use crate::lists::with_last;
+use crate::lists::{with_last, with_next};
 use crate::stop::Stop;
 use crate::tokens::{Mark, Token};
 use bern_base::{Items, RawItem, RawRef, RawSum, Text};
@@ -84,7 +84,7 @@ fn items<'a>(
         let (item, after) = item(alloc, minus, rest)?;
         match next_sign(after) {
             Some((sign, next)) => {
-                items.push(item)?;
+                items = with_next(items, item)?;
                 minus = sign;
                 rest = next;
             }

@@ -43,7 +43,7 @@ factors-loop-factors-preserved t c =
     let factor = c.in_ok-factor.ensures.shorter in
     let next = c.in-Some.ensures.shorter in
     record {
-      carries = λ n below. rw c.in_ok-push-in-Some.ensures.ok (carries_on (starred_at (expr_at n c.args.levels)) star_at c.loop-factors.factors tt c.loop-factors.rest.now
+      carries = λ n below. rw c.in_ok-factors-in-Some.ensures (carries_on (starred_at (expr_at n c.args.levels)) star_at c.loop-factors.factors tt c.loop-factors.rest.now
           (factors_at (expr_at n c.args.levels) n c.args.tokens.now) (c.loop-factors.invariant.carries n below) tt c.in_ok-factor.after.now c.in-Some.next.now c.in_ok-factor.factor
           (c.in_ok-factor.ensures.value n (omega arith)) (sym c.next_star.ensures.value ∙ ap (option_map behind) c.in-Some.is) (omega arith));
       within = omega arith;
@@ -76,7 +76,7 @@ products-loop-products-preserved t c =
     let product = c.in_ok-product.ensures.shorter in
     let next = c.in-Some.ensures.shorter in
     record {
-      carries = λ n below. rw c.in_ok-push-in-Some.ensures.ok (carries_on (product_at (expr_at n c.args.levels) n) sign_at c.loop-products.products c.loop-products.minus c.loop-products.rest.now
+      carries = λ n below. rw c.in_ok-products-in-Some.ensures (carries_on (product_at (expr_at n c.args.levels) n) sign_at c.loop-products.products c.loop-products.minus c.loop-products.rest.now
           (products_at n c.args.levels c.args.minus c.args.tokens.now) (c.loop-products.invariant.carries n below) c.in-Some.sign c.in_ok-product.after.now c.in-Some.next.now c.in_ok-product.product
           (c.in_ok-product.ensures.value n (omega arith)) (sym c.next_sign.ensures.value ∙ ap (option_map seen) c.in-Some.is) (omega arith));
       within = omega arith;

@@ -24,7 +24,7 @@ loop-guards-preserved c =
     let guard = c.in_ok-guard.ensures.shorter in
     let next = c.in-Some.ensures.shorter in
     record {
-      carries = λ n below. rw c.in_ok-push-in-Some.ensures.ok (carries_on guard_at comma_at c.loop-guards.guards tt c.loop-guards.rest.now
+      carries = λ n below. rw c.in_ok-guards-in-Some.ensures (carries_on guard_at comma_at c.loop-guards.guards tt c.loop-guards.rest.now
           (guards_from n c.args.tokens.now) (c.loop-guards.invariant.carries n below) tt c.in_ok-guard.after.now c.in-Some.next.now c.in_ok-guard.guard
           c.in_ok-guard.ensures.value (sym c.next_comma.ensures.value ∙ ap (option_map behind) c.in-Some.is) (omega arith));
       within = omega arith;

@@ -24,7 +24,7 @@ loop-vars-preserved c =
     let var = c.in_ok-var.ensures.shorter in
     let next = c.in-Some.ensures.shorter in
     record {
-      carries = λ n below. rw c.in_ok-push-in-Some.ensures.ok (carries_on span_at name_at c.loop-vars.vars c.loop-vars.name.now c.loop-vars.rest.now
+      carries = λ n below. rw c.in_ok-vars-in-Some.ensures (carries_on span_at name_at c.loop-vars.vars c.loop-vars.name.now c.loop-vars.rest.now
           (vars_from n c.args.first.now c.args.tokens.now) (c.loop-vars.invariant.carries n below) c.in-Some.next.now c.in_ok-var.after.now c.in-Some.more.now c.in_ok-var.var
           c.in_ok-var.ensures.value (sym c.next_name.ensures.value ∙ ap (option_map named) c.in-Some.is) (omega arith));
       within = omega arith;

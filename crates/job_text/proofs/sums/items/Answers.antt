@@ -42,7 +42,7 @@ loop-preserved c =
     let all = items_at c.args.minus c.args.tokens.now in
     let i = c.loop.counter in
     record {
-      carries = rw c.in_ok-push-in-Some.ensures.ok (reads_on item_at sign_at front (8 - (i + 1)) c.loop.minus c.loop.rest.now all (so_far i front c.loop.minus c.loop.rest.now all c.loop-test.true c.loop.invariant.carries)
+      carries = rw c.in_ok-items-in-Some.ensures (reads_on item_at sign_at front (8 - (i + 1)) c.loop.minus c.loop.rest.now all (so_far i front c.loop.minus c.loop.rest.now all c.loop-test.true c.loop.invariant.carries)
           c.in-Some.sign c.in_ok-item.after.now c.in-Some.next.now c.in_ok-item.item c.in_ok-item.ensures.value (sym c.next_sign.ensures.value ∙ ap (option_map seen) c.in-Some.is));
       within = let item = c.in_ok-item.ensures.shorter in let next = c.in-Some.ensures.shorter in omega arith;
     }
