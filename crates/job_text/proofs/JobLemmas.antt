@@ -1,6 +1,5 @@
 -- Jobs: the steps of a reader of lines, and that bytes have one meaning.
-use Rattle.std.proofs.Common.{◌≡◌, ℕ, suc, ◌+◌, ◌<◌, Bool, true, false, Option, Some, None, List, [], ◌∷◌, ◌++◌, MatchBool, length, get_or, drop, append_assoc, append-nil, refl, sym, ap, subst, ◌∙◌, arith}
-use Rattle.std.proofs.Math.Seq.{drop-cons}
+use Rattle.std.proofs.Common.{◌≡◌, ℕ, ◌+◌, Bool, true, false, Option, Some, None, List, [], ◌∷◌, ◌++◌, MatchBool, append_assoc, append-nil, refl, sym, ap, subst, ◌∙◌}
 use Rattle.bern_base.specs.declared.raw.Form.{Form}
 use Rattle.bern_base.specs.declared.raw.JobLine.{JobLine}
 use Rattle.job_text.specs.Lines.{lines, said, is_some_text}
@@ -43,9 +42,6 @@ carries_first texts = record { carries = λ more broken is. is }
 
 pub carries_end : (all : List Numbered) (number : ℕ) (forms : List JobLine) → Carries all number [] forms → IsRead all forms None
 carries_end all number forms c = subst (λ l. IsRead all l None) (append-nil forms) (c.carries [] None tt)
-
-pub line_at : (texts : List (List ℕ)) (i : ℕ) (line : List ℕ) → i < length texts → line ≡ get_or texts i line → drop i texts ≡ line ∷ drop (i + 1) texts
-line_at texts i line below is = let one : i + 1 ≡ suc i = omega arith in rw one (drop-cons texts i line below ∙ ap (λ w. w ∷ drop (suc i) texts) (sym is))
 
 module _ (all : List Numbered) (number : ℕ) (line : List ℕ) (left : List (List ℕ)) (forms : List JobLine) (c : Carries all number (line ∷ left) forms) where
   pub carries_broken : is_some_text (said line) ≡ true → HasNoForm (said line) → IsRead all forms (Some number)

@@ -1,15 +1,11 @@
 -- The steps of a reader of rising offsets.
-use Rattle.std.proofs.Common.{◌≡◌, ◌<◌, ◌+◌, suc, length, get_or, drop, arith, ℕ, ℤ, Option, Some, None, option_map, List, [], ◌∷◌, ◌++◌, append_assoc, append-nil, refl, sym, ap, ◌∙◌}
+use Rattle.std.proofs.Common.{◌≡◌, ℕ, ℤ, Option, Some, None, option_map, List, [], ◌∷◌, ◌++◌, append_assoc, append-nil, refl, sym, ap, ◌∙◌}
 use Rattle.std.specs.Prelude.{option_and_then}
-use Rattle.std.proofs.Math.Seq.{drop-cons}
 use Rattle.job_text.specs.WordReading.{onto, next_offset, offsets_from}
 
 onto-twice : (front more : List ℤ) (read : Option (List ℤ)) → option_map (onto front) (option_map (onto more) read) ≡ option_map (onto (front ++ more)) read
 onto-twice front more None = refl
 onto-twice front more (Some xs) = ap Some (sym (append_assoc front more xs))
-
-pub drop_at : (words : List (List ℕ)) (i : ℕ) (word : List ℕ) → i < length words → word ≡ get_or words i word → drop i words ≡ word ∷ drop (i + 1) words
-drop_at words i word below is = let one : i + 1 ≡ suc i = omega arith in rw one (drop-cons words i word below ∙ ap (λ w. w ∷ drop (suc i) words) (sym is))
 
 pub onto-nil : (read : Option (List ℤ)) → option_map (onto []) read ≡ read
 onto-nil None = refl

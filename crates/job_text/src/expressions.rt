@@ -2,6 +2,7 @@ ghost use Rattle.std.specs.Prelude.{◌≡◌, ◌<◌, ℕ, option_map, length,
 ghost use Rattle.job_text.specs.NestReading.{list_at, sign_at, star_at, factor_at, factors_at, product_at, products_at, expr_at};
 ghost use Rattle.job_text.specs.Reading.{Gives, seen, behind};
 
+use crate::lists::{with_last, with_next};
 use crate::stop::Stop;
 use crate::sums::{first_sign, next_sign, reference};
 use crate::tokens::{Mark, Token};
@@ -38,18 +39,18 @@ fn products<'a>(
     ensures value { (n : ℕ) → length tokens.now < n → Gives seen result (products_at n levels minus tokens.now) }
     ensures shorter { IfOk result (λ p. length p.1.now < length tokens.now) }
 {
-    let mut products = Items::from_vec(Vec::with_capacity(alloc, 1)?);
+    let mut products = Items::new(alloc);
     let mut minus = minus;
     let mut rest = tokens;
     loop {
         let (product, after) = product(alloc, levels, minus, rest)?;
-        products.push(product)?;
         match next_sign(after) {
             Some((sign, next)) => {
+                products = with_next(products, product)?;
                 minus = sign;
                 rest = next;
             }
-            None => return Ok((products, after)),
+            None => return Ok((with_last(products, product)?, after)),
         }
     }
 }
@@ -79,14 +80,16 @@ fn factors<'a>(
     ensures value { (n : ℕ) → length tokens.now < n → Gives seen result (factors_at (expr_at n levels) n tokens.now) }
     ensures shorter { IfOk result (λ p. length p.1.now < length tokens.now) }
 {
-    let mut factors = Items::from_vec(Vec::with_capacity(alloc, 1)?);
+    let mut factors = Items::new(alloc);
     let mut rest = tokens;
     loop {
         let (factor, after) = factor(alloc, levels, rest)?;
-        factors.push(factor)?;
         match next_star(after) {
-            Some(next) => rest = next,
-            None => return Ok((factors, after)),
+            Some(next) => {
+                factors = with_next(factors, factor)?;
+                rest = next;
+            }
+            None => return Ok((with_last(factors, factor)?, after)),
         }
     }
 }

@@ -5,6 +5,7 @@ ghost use Rattle.job_text.specs.Job.{HasNoForm, IsJob, AddsLine, HasOneForm, Has
 use crate::line_forms::line_form;
 use crate::lines::{is_some_text, lines, said};
 use crate::stop::Stop;
+use crate::tokens::Token;
 use bern_base::{Items, JobLine, JobText, NoMemory};
 use std::alloc::Global;
 use thiserror::Error;
@@ -52,9 +53,10 @@ fn read_lines(alloc: Global, bytes: &[u8]) -> Result<JobText, NoMemory>
 {
     let texts = lines(alloc, bytes)?;
     let mut forms = Items::new(alloc);
+    let mut tokens = Vec::new(alloc);
     let mut number: u64 = 1;
     for line in &texts {
-        match add_line(alloc, &mut forms, number, line.bytes()) {
+        match add_line(alloc, &mut tokens, &mut forms, number, line.bytes()) {
             Ok(()) => number += 1,
             Err(Stop::NoForm) => {
                 return Ok(JobText {
@@ -72,7 +74,15 @@ fn read_lines(alloc: Global, bytes: &[u8]) -> Result<JobText, NoMemory>
 }
 
 /// Adds the form of a line, or nothing where the line says nothing.
-fn add_line(alloc: Global, forms: &mut Items<JobLine>, number: u64, line: &[u8]) -> Result<(), Stop>
+///
+/// `tokens` is a list that is free to be filled.
+fn add_line(
+    alloc: Global,
+    tokens: &mut Vec<Token>,
+    forms: &mut Items<JobLine>,
+    number: u64,
+    line: &[u8],
+) -> Result<(), Stop>
     ensures ok { OnOk result (AddsLine number (said line.now) forms.old forms.new) }
     ensures none { IsErrOf result Stop.NoForm → (forms.new ≡ forms.old) × (is_some_text (said line.now) ≡ true) × HasNoForm (said line.now) }
 {
@@ -80,7 +90,7 @@ fn add_line(alloc: Global, forms: &mut Items<JobLine>, number: u64, line: &[u8])
     if !is_some_text(text) {
         return Ok(());
     }
-    match line_form(alloc, text) {
+    match line_form(alloc, tokens, text) {
         Ok(form) => {
             forms.push(JobLine { number, form })?;
             Ok(())

@@ -1,64 +1,64 @@
-ghost use Rattle.std.specs.Prelude.{◌≡◌, ◌<◌, ◌≤◌, length, true, List, IfOk, IsErrOf};
+ghost use Rattle.std.specs.Prelude.{◌≡◌, ◌<◌, ◌≤◌, length, true, option_map, List, OnOk, IsErrOf};
 ghost use Rattle.std.specs.List.{position_or_len};
 ghost use Rattle.job_text.specs.declared.tokens.Token.{Token};
 ghost use Rattle.job_text.specs.Names.{is_digit, is_name_start};
 ghost use Rattle.job_text.specs.Tokens.{single_at, mark_at, digits_end, number_at, word_end, word_token, word_at, first_token, Lexes};
-ghost use Rattle.job_text.specs.Reading.{Gives, seen};
+ghost use Rattle.job_text.specs.Reading.{seen};
 
 use crate::lines::trimmed;
 use crate::marks::{double_mark, single_mark};
 use crate::names::{is_digit, is_name, is_name_byte, is_name_start};
 use crate::numbers::number;
 use crate::stop::Stop;
-use crate::tokens::{Mark, Token};
-use bern_base::Text;
-use std::alloc::Global;
+use crate::tokens::{Mark, Name, Token};
 
-/// The tokens of a nest line.
-pub(crate) fn tokens(alloc: Global, text: &[u8]) -> Result<Vec<Token>, Stop>
-    ensures found { IfOk result (λ found. Lexes text.now found.items) }
+/// Puts the tokens of a nest line into a list, in the place of what it held.
+pub(crate) fn lex(text: &[u8], tokens: &mut Vec<Token>) -> Result<(), Stop>
+    ensures found { OnOk result (Lexes text.now tokens.new.items) }
     ensures none { IsErrOf result Stop.NoForm → (any : List Token) → ¬ (Lexes text.now any) }
 {
-    let mut tokens = Vec::new(alloc);
+    tokens.clear();
     let mut rest = text;
     loop {
         let start = trimmed(rest);
         if start.is_empty() {
-            return Ok(tokens);
+            return Ok(());
         }
-        let (token, after) = token(alloc, start)?;
-        tokens.push(token)?;
-        rest = after;
+        match token(start) {
+            Some((token, after)) => {
+                tokens.push(token)?;
+                rest = after;
+            }
+            None => return Err(Stop::NoForm),
+        }
     }
 }
 
 /// The token at the front of a text, and what follows it.
-fn token<'a>(alloc: Global, text: &'a [u8]) -> Result<(Token, &'a [u8]), Stop>
-    ensures { Gives seen result (first_token text.now) }
+fn token(text: &[u8]) -> Option<(Token, &[u8])>
+    ensures { option_map seen result ≡ first_token text.now }
 {
     match text {
         [first, rest @ ..] => {
             if is_digit(*first) {
                 number_token(text)
             } else if is_name_start(*first) {
-                word(alloc, text)
+                word(text)
             } else {
                 mark(*first, rest)
             }
         }
-        [] => Err(Stop::NoForm),
+        [] => None,
     }
 }
 
 /// A run of digits, taken whole.
-fn number_token<'a>(text: &'a [u8]) -> Result<(Token, &'a [u8]), Stop>
-    ensures { Gives seen result (number_at text.now) }
+fn number_token(text: &[u8]) -> Option<(Token, &[u8])>
+    ensures { option_map seen result ≡ number_at text.now }
 {
     let end = digits_end(text);
-    match number(&text[..end]) {
-        Some(number) => Ok((Token::Num(number), &text[end..])),
-        None => Err(Stop::NoForm),
-    }
+    let number = number(&text[..end])?;
+    Some((Token::Num(number), &text[end..]))
 }
 
 fn digits_end(text: &[u8]) -> usize
@@ -70,12 +70,12 @@ fn digits_end(text: &[u8]) -> usize
 }
 
 /// A run of letters, digits and `_`, taken whole.
-fn word<'a>(alloc: Global, text: &'a [u8]) -> Result<(Token, &'a [u8]), Stop>
-    ensures { Gives seen result (word_at text.now) }
+fn word(text: &[u8]) -> Option<(Token, &[u8])>
+    ensures { option_map seen result ≡ word_at text.now }
 {
     let end = word_end(text);
-    let token = word_token(alloc, &text[..end])?;
-    Ok((token, &text[end..]))
+    let token = word_token(&text[..end])?;
+    Some((token, &text[end..]))
 }
 
 fn word_end(text: &[u8]) -> usize
@@ -86,38 +86,36 @@ fn word_end(text: &[u8]) -> usize
         .unwrap_or(text.len())
 }
 
-fn word_token(alloc: Global, word: &[u8]) -> Result<Token, Stop>
-    ensures { Gives (λ token. token) result (word_token word.now) }
+fn word_token(word: &[u8]) -> Option<Token>
+    ensures { result ≡ word_token word.now }
 {
     if word == b"doany".as_slice() {
-        Ok(Token::Mark(Mark::Doany))
+        Some(Token::Mark(Mark::Doany))
     } else if word == b"where".as_slice() {
-        Ok(Token::Mark(Mark::Where))
+        Some(Token::Mark(Mark::Where))
     } else if is_name(word) {
-        Ok(Token::Name(Text::from_bytes(alloc, word)?))
+        Some(Token::Name(Name::from_bytes(word)))
     } else {
-        Err(Stop::NoForm)
+        None
     }
 }
 
 /// The mark that begins with this byte: of two bytes where there is one, else of one.
-fn mark<'a>(first: u8, rest: &'a [u8]) -> Result<(Token, &'a [u8]), Stop>
-    ensures { Gives seen result (mark_at first rest.now) }
+fn mark(first: u8, rest: &[u8]) -> Option<(Token, &[u8])>
+    ensures { option_map seen result ≡ mark_at first rest.now }
 {
     match rest {
         [second, after @ ..] => match double_mark(first, *second) {
-            Some(mark) => Ok((Token::Mark(mark), after)),
+            Some(mark) => Some((Token::Mark(mark), after)),
             None => single(first, rest),
         },
         [] => single(first, rest),
     }
 }
 
-fn single<'a>(first: u8, rest: &'a [u8]) -> Result<(Token, &'a [u8]), Stop>
-    ensures { Gives seen result (single_at first rest.now) }
+fn single(first: u8, rest: &[u8]) -> Option<(Token, &[u8])>
+    ensures { option_map seen result ≡ single_at first rest.now }
 {
-    match single_mark(first) {
-        Some(mark) => Ok((Token::Mark(mark), rest)),
-        None => Err(Stop::NoForm),
-    }
+    let mark = single_mark(first)?;
+    Some((Token::Mark(mark), rest))
 }

@@ -10,6 +10,7 @@ mod levels;
 mod lexer;
 mod line_forms;
 mod lines;
+mod lists;
 mod marks;
 mod names;
 mod nests;

@@ -10,22 +10,25 @@ ghost use Rattle.job_text.specs.WordReading.{form_of};
 ghost use Rattle.job_text.specs.Reading.{Gives};
 
 use crate::forms::word_form;
-use crate::lexer::tokens;
+use crate::lexer::lex;
 use crate::nests::nest;
 use crate::stop::Stop;
+use crate::tokens::Token;
 use crate::words::words;
 use bern_base::{Form, RawNest};
 use std::alloc::Global;
 
 /// The form of what a line says.
-pub(crate) fn line_form(alloc: Global, text: &[u8]) -> Result<Form, Stop>
+///
+/// `tokens` is a list that is free to be filled.
+pub(crate) fn line_form(alloc: Global, tokens: &mut Vec<Token>, text: &[u8]) -> Result<Form, Stop>
     requires { trimmed text.now ≡ text.now }
     ensures found { IfOk result (λ form. IsForm form text.now) }
     ensures none { IsErrOf result Stop.NoForm → (form : Form) → ¬ (IsForm form text.now) }
 {
     // No line of words begins with these letters.
     if text.starts_with(b"doany") {
-        match nest_line(alloc, text) {
+        match nest_line(alloc, tokens, text) {
             Ok(nest) => Ok(Form::Nest(nest)),
             Err(stop) => Err(stop),
         }
@@ -34,11 +37,11 @@ pub(crate) fn line_form(alloc: Global, text: &[u8]) -> Result<Form, Stop>
     }
 }
 
-fn nest_line(alloc: Global, text: &[u8]) -> Result<RawNest, Stop>
+fn nest_line(alloc: Global, tokens: &mut Vec<Token>, text: &[u8]) -> Result<RawNest, Stop>
     ensures found { IfOk result (λ nest. (tokens : List Token) × Lexes text.now tokens × IsNest nest tokens) }
     ensures none { IsErrOf result Stop.NoForm → (nest : RawNest) (tokens : List Token) → Lexes text.now tokens → ¬ (IsNest nest tokens) }
 {
-    let tokens = tokens(alloc, text)?;
+    lex(text, tokens)?;
     nest(alloc, tokens.as_slice())
 }
 

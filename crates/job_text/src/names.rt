@@ -1,4 +1,4 @@
-ghost use Rattle.std.specs.Prelude.{◌≡◌};
+ghost use Rattle.std.specs.Prelude.{◌≡◌, ◌≤◌, length, IsTrue};
 ghost use Rattle.std.specs.List.{list_all};
 ghost use Rattle.job_text.specs.Names.{is_name_start, is_digit, is_name_byte, is_keyword, is_among, line_words, joining_words, place_words, level_words, starts_name, is_name, is_file_byte, is_file_name};
 
@@ -101,7 +101,8 @@ fn starts_name(word: &[u8]) -> bool
 
 /// A letter or `_`, then letters, digits and `_`, at most 32 bytes, and no keyword.
 pub(crate) fn is_name(word: &[u8]) -> bool
-    ensures { result ≡ is_name word.now }
+    ensures value { result ≡ is_name word.now }
+    ensures short { IsTrue result → length word.now ≤ 32 }
 {
     starts_name(word) && word.len() <= 32 && are_name_bytes(word) && !is_keyword(word)
 }

@@ -3,9 +3,10 @@ ghost use Rattle.job_text.specs.NestReading.{span_at, to_at, vars_at, vars_from,
 ghost use Rattle.job_text.specs.Reading.{Gives, seen, behind, named};
 
 use crate::expressions::expression;
+use crate::lists::{with_last, with_next};
 use crate::stop::Stop;
 use crate::sums::{reference, sum};
-use crate::tokens::{Mark, Token};
+use crate::tokens::{Mark, Name, Token};
 use bern_base::{Items, RawExpr, RawGuard, RawNest, RawVar, Rel, Text};
 use std::alloc::Global;
 
@@ -92,30 +93,30 @@ fn variables<'a>(alloc: Global, tokens: &'a [Token]) -> Result<(Items<RawVar>, &
 /// The variables, the first of this name.
 fn variables_from<'a>(
     alloc: Global,
-    first: &'a Text,
+    first: &'a Name,
     tokens: &'a [Token],
 ) -> Result<(Items<RawVar>, &'a [Token]), Stop>
     ensures value { (n : ℕ) → length tokens.now < n → Gives seen result (vars_from n first.now tokens.now) }
     ensures shorter { IfOk result (λ p. length p.1.now < length tokens.now) }
 {
-    let mut vars = Items::from_vec(Vec::with_capacity(alloc, 1)?);
+    let mut vars = Items::new(alloc);
     let mut name = first;
     let mut rest = tokens;
     loop {
         let (var, after) = span(alloc, name, rest)?;
-        vars.push(var)?;
         match next_name(after) {
             Some((next, more)) => {
+                vars = with_next(vars, var)?;
                 name = next;
                 rest = more;
             }
-            None => return Ok((vars, after)),
+            None => return Ok((with_last(vars, var)?, after)),
         }
     }
 }
 
 /// The name of the next variable, and what follows it.
-fn next_name<'a>(tokens: &'a [Token]) -> Option<(&'a Text, &'a [Token])>
+fn next_name<'a>(tokens: &'a [Token]) -> Option<(&'a Name, &'a [Token])>
     ensures value { option_map named result ≡ name_at tokens.now }
     ensures shorter { IfSome result (λ p. length p.1.now < length tokens.now) }
 {
@@ -127,7 +128,7 @@ fn next_name<'a>(tokens: &'a [Token]) -> Option<(&'a Text, &'a [Token])>
 
 /// The bounds of the variable of this name.
 #[tactic(auto, unfolding(crate::specs::NestReading::span_at))]
-fn span<'a>(alloc: Global, name: &Text, tokens: &'a [Token]) -> Result<(RawVar, &'a [Token]), Stop>
+fn span<'a>(alloc: Global, name: &Name, tokens: &'a [Token]) -> Result<(RawVar, &'a [Token]), Stop>
     ensures value { Gives seen result (span_at name.now tokens.now) }
     ensures shorter { IfOk result (λ p. length p.1.now < length tokens.now) }
 {
@@ -161,14 +162,16 @@ fn guards_from<'a>(
     ensures value { (n : ℕ) → length tokens.now < n → Gives seen result (guards_from n tokens.now) }
     ensures shorter { IfOk result (λ p. length p.1.now < length tokens.now) }
 {
-    let mut guards = Items::from_vec(Vec::with_capacity(alloc, 1)?);
+    let mut guards = Items::new(alloc);
     let mut rest = tokens;
     loop {
         let (guard, after) = guard(alloc, rest)?;
-        guards.push(guard)?;
         match next_comma(after) {
-            Some(next) => rest = next,
-            None => return Ok((guards, after)),
+            Some(next) => {
+                guards = with_next(guards, guard)?;
+                rest = next;
+            }
+            None => return Ok((with_last(guards, guard)?, after)),
         }
     }
 }

@@ -1,7 +1,8 @@
 ghost use Rattle.std.specs.Prelude.{◌≡◌, ◌<◌, ◌≤◌, Some, option_map, length, IfOk, IfSome};
-ghost use Rattle.job_text.specs.NestReading.{item_at, items_at, sign_at, first_sign, sum_at, second_at, subs_at, closed_at, ref_at};
+ghost use Rattle.job_text.specs.NestReading.{limited_item, item_at, items_at, sign_at, first_sign, sum_at, second_at, subs_at, closed_at, ref_at};
 ghost use Rattle.job_text.specs.Reading.{Gives, seen};
 
+use crate::lists::{with_last, with_next};
 use crate::stop::Stop;
 use crate::tokens::{Mark, Token};
 use bern_base::{Items, RawItem, RawRef, RawSum, Text};
@@ -43,15 +44,16 @@ fn subscripts<'a>(alloc: Global, tokens: &'a [Token]) -> Result<(Items<RawSum>, 
     ensures shorter { IfOk result (λ p. length p.1.now < length tokens.now) }
 {
     let (row, rest) = sum(alloc, tokens)?;
-    let mut subs = Items::from_vec(Vec::with_capacity(alloc, 1)?);
-    subs.push(row)?;
     match rest {
         [Token::Mark(Mark::Comma), rest @ ..] => {
             let (col, rest) = sum(alloc, rest)?;
-            subs.push(col)?;
-            Ok((subs, rest))
+            let subs = vec![in alloc; row, col]?;
+            Ok((Items::from_vec(subs), rest))
         }
-        _ => Ok((subs, rest)),
+        _ => {
+            let subs = vec![in alloc; row]?;
+            Ok((Items::from_vec(subs), rest))
+        }
     }
 }
 
@@ -75,18 +77,18 @@ fn items<'a>(
     ensures value { Gives seen result (items_at minus tokens.now) }
     ensures shorter { IfOk result (λ p. length p.1.now < length tokens.now) }
 {
-    let mut items = Items::from_vec(Vec::with_capacity(alloc, 1)?);
+    let mut items = Items::new(alloc);
     let mut minus = minus;
     let mut rest = tokens;
     for _ in 0..ITEMS {
         let (item, after) = item(alloc, minus, rest)?;
-        items.push(item)?;
         match next_sign(after) {
             Some((sign, next)) => {
+                items = with_next(items, item)?;
                 minus = sign;
                 rest = next;
             }
-            None => return Ok((items, after)),
+            None => return Ok((with_last(items, item)?, after)),
         }
     }
     Err(Stop::NoForm)
@@ -105,34 +107,10 @@ fn item<'a>(alloc: Global, minus: bool, tokens: &'a [Token]) -> Result<(RawItem,
             Token::Name(name),
             rest @ ..,
         ] => {
-            if *number < LIMIT {
-                let name = Text::from_bytes(alloc, name.as_bytes())?;
-                Ok((
-                    RawItem {
-                        minus,
-                        number: *number,
-                        name: Some(name),
-                    },
-                    rest,
-                ))
-            } else {
-                Err(Stop::NoForm)
-            }
+            let name = Text::from_bytes(alloc, name.as_bytes())?;
+            limited(minus, *number, Some(name), rest)
         }
-        [Token::Num(number), rest @ ..] => {
-            if *number < LIMIT {
-                Ok((
-                    RawItem {
-                        minus,
-                        number: *number,
-                        name: None,
-                    },
-                    rest,
-                ))
-            } else {
-                Err(Stop::NoForm)
-            }
-        }
+        [Token::Num(number), rest @ ..] => limited(minus, *number, None, rest),
         [Token::Name(name), rest @ ..] => {
             let name = Text::from_bytes(alloc, name.as_bytes())?;
             Ok((
@@ -145,6 +123,30 @@ fn item<'a>(alloc: Global, minus: bool, tokens: &'a [Token]) -> Result<(RawItem,
             ))
         }
         _ => Err(Stop::NoForm),
+    }
+}
+
+/// An item whose number is below 2^32, and what follows it.
+fn limited<'a>(
+    minus: bool,
+    number: u64,
+    name: Option<Text>,
+    rest: &'a [Token],
+) -> Result<(RawItem, &'a [Token]), Stop>
+    ensures value { Gives seen result (limited_item minus number name rest.now) }
+    ensures rest { IfOk result (λ p. length p.1.now ≤ length rest.now) }
+{
+    if number < LIMIT {
+        Ok((
+            RawItem {
+                minus,
+                number,
+                name,
+            },
+            rest,
+        ))
+    } else {
+        Err(Stop::NoForm)
     }
 }
 

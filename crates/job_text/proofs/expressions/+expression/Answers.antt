@@ -25,7 +25,7 @@ expression-returns-clause-value t c = λ n below.
 
 pub factors-loop-factors-init : goal.factors-loop-factors-init
 factors-loop-factors-init t c = record {
-  carries = λ n below. rw (c.from_vec-factors.ensures ∙ c.in_ok-with_capacity.ensures.items) (carries_first (starred_at (expr_at n c.args.levels)) star_at n tt c.args.tokens.now below);
+  carries = λ n below. rw c.new-factors.ensures (carries_first (starred_at (expr_at n c.args.levels)) star_at n tt c.args.tokens.now below);
   within = omega arith;
 }
 
@@ -33,7 +33,7 @@ pub factors-returns-in_err-factor-clause-value : goal.factors-returns-in_err-fac
 factors-returns-in_err-factor-clause-value t c = λ n below.
     let within = c.loop-factors.invariant.within in
     let all = factors_at (expr_at n c.args.levels) n c.args.tokens.now in
-    gives_err seen c.from_residual-in_err-factor.result c.in_err-factor.field-0.0 (factor_at (expr_at n c.args.levels) c.loop-factors.rest.now) all (err_from_is_err_and c.from_residual-in_err-factor.result c.from_residual-in_err-factor.ensures.1)
+    gives_err seen c.from_residual.result c.in_err-factor.field-0.0 (factor_at (expr_at n c.args.levels) c.loop-factors.rest.now) all (err_from_is_err_and c.from_residual.result c.from_residual.ensures.1)
     (c.in_err-factor.ensures.value n (omega arith))
     (carries_fail (starred_at (expr_at n c.args.levels)) star_at c.loop-factors.factors tt c.loop-factors.rest.now all (c.loop-factors.invariant.carries n below))
 
@@ -43,7 +43,7 @@ factors-loop-factors-preserved t c =
     let factor = c.in_ok-factor.ensures.shorter in
     let next = c.in-Some.ensures.shorter in
     record {
-      carries = λ n below. rw c.in_ok-push.ensures.ok (carries_on (starred_at (expr_at n c.args.levels)) star_at c.loop-factors.factors tt c.loop-factors.rest.now
+      carries = λ n below. rw c.in_ok-factors-in-Some.ensures (carries_on (starred_at (expr_at n c.args.levels)) star_at c.loop-factors.factors tt c.loop-factors.rest.now
           (factors_at (expr_at n c.args.levels) n c.args.tokens.now) (c.loop-factors.invariant.carries n below) tt c.in_ok-factor.after.now c.in-Some.next.now c.in_ok-factor.factor
           (c.in_ok-factor.ensures.value n (omega arith)) (sym c.next_star.ensures.value ∙ ap (option_map behind) c.in-Some.is) (omega arith));
       within = omega arith;
@@ -54,11 +54,11 @@ factors-returns-in-None-clause-value t c = λ n below.
     let within = c.loop-factors.invariant.within in
     carries_end (starred_at (expr_at n c.args.levels)) star_at c.loop-factors.factors tt c.loop-factors.rest.now (factors_at (expr_at n c.args.levels) n c.args.tokens.now) (c.loop-factors.invariant.carries n below)
     c.in_ok-factor.after.now c.in_ok-factor.factor (c.in_ok-factor.ensures.value n (omega arith)) (sym c.next_star.ensures.value ∙ ap (option_map behind) c.in-None.is)
-    ∙ ap (λ items. Some (items, c.in_ok-factor.after.now)) (sym c.in_ok-push.ensures.ok)
+    ∙ ap (λ items. Some (items, c.in_ok-factor.after.now)) (sym c.in_ok-with_last-in-None.ensures)
 
 pub products-loop-products-init : goal.products-loop-products-init
 products-loop-products-init t c = record {
-  carries = λ n below. rw (c.from_vec-products.ensures ∙ c.in_ok-with_capacity.ensures.items) (carries_first (product_at (expr_at n c.args.levels) n) sign_at n c.args.minus c.args.tokens.now below);
+  carries = λ n below. rw c.new-products.ensures (carries_first (product_at (expr_at n c.args.levels) n) sign_at n c.args.minus c.args.tokens.now below);
   within = omega arith;
 }
 
@@ -66,7 +66,7 @@ pub products-returns-in_err-product-clause-value : goal.products-returns-in_err-
 products-returns-in_err-product-clause-value t c = λ n below.
     let within = c.loop-products.invariant.within in
     let all = products_at n c.args.levels c.args.minus c.args.tokens.now in
-    gives_err seen c.from_residual-in_err-product.result c.in_err-product.field-0.0 (product_at (expr_at n c.args.levels) n c.loop-products.minus c.loop-products.rest.now) all (err_from_is_err_and c.from_residual-in_err-product.result c.from_residual-in_err-product.ensures.1)
+    gives_err seen c.from_residual.result c.in_err-product.field-0.0 (product_at (expr_at n c.args.levels) n c.loop-products.minus c.loop-products.rest.now) all (err_from_is_err_and c.from_residual.result c.from_residual.ensures.1)
     (c.in_err-product.ensures.value n (omega arith))
     (carries_fail (product_at (expr_at n c.args.levels) n) sign_at c.loop-products.products c.loop-products.minus c.loop-products.rest.now all (c.loop-products.invariant.carries n below))
 
@@ -76,7 +76,7 @@ products-loop-products-preserved t c =
     let product = c.in_ok-product.ensures.shorter in
     let next = c.in-Some.ensures.shorter in
     record {
-      carries = λ n below. rw c.in_ok-push.ensures.ok (carries_on (product_at (expr_at n c.args.levels) n) sign_at c.loop-products.products c.loop-products.minus c.loop-products.rest.now
+      carries = λ n below. rw c.in_ok-products-in-Some.ensures (carries_on (product_at (expr_at n c.args.levels) n) sign_at c.loop-products.products c.loop-products.minus c.loop-products.rest.now
           (products_at n c.args.levels c.args.minus c.args.tokens.now) (c.loop-products.invariant.carries n below) c.in-Some.sign c.in_ok-product.after.now c.in-Some.next.now c.in_ok-product.product
           (c.in_ok-product.ensures.value n (omega arith)) (sym c.next_sign.ensures.value ∙ ap (option_map seen) c.in-Some.is) (omega arith));
       within = omega arith;
@@ -87,4 +87,4 @@ products-returns-in-None-clause-value t c = λ n below.
     let within = c.loop-products.invariant.within in
     carries_end (product_at (expr_at n c.args.levels) n) sign_at c.loop-products.products c.loop-products.minus c.loop-products.rest.now (products_at n c.args.levels c.args.minus c.args.tokens.now) (c.loop-products.invariant.carries n below)
     c.in_ok-product.after.now c.in_ok-product.product (c.in_ok-product.ensures.value n (omega arith)) (sym c.next_sign.ensures.value ∙ ap (option_map seen) c.in-None.is)
-    ∙ ap (λ items. Some (items, c.in_ok-product.after.now)) (sym c.in_ok-push.ensures.ok)
+    ∙ ap (λ items. Some (items, c.in_ok-product.after.now)) (sym c.in_ok-with_last-in-None.ensures)

@@ -2,7 +2,8 @@ use Rattle.std.proofs.Common.{◌≡◌, ◌+◌, ◌∷◌, Err, Some, None, tr
 use Rattle.std.proofs.lemmas.List.{drop_all}
 use Rattle.job_text.specs.Lines.{said, is_some_text}
 use Rattle.job_text.specs.Job.{numbered, IsRead, HasNoForm, AddsLine}
-use Rattle.job_text.proofs.JobLemmas.{Carries, carries_first, carries_end, carries_broken, carries_on, line_at}
+use Rattle.job_text.proofs.JobLemmas.{Carries, carries_first, carries_end, carries_broken, carries_on}
+use Rattle.job_text.proofs.PlaceLemmas.{drop_at}
 use Rattle.job_text.proofs.job.read_lines.Goals as goal
 
 pub loop-line-init : goal.loop-line-init
@@ -17,7 +18,7 @@ returns-in-Err-NoForm c =
     let i = c.loop-line.line-index in
     let line = c.line-item.result in
     let all = numbered 1 texts in
-    let here = line_at texts i line c.loop-line-test.true c.line-item.is in
+    let here = drop_at texts i line c.loop-line-test.true c.line-item.is in
     let left : Carries all c.loop-line.number (line ∷ drop (i + 1) texts) c.loop-line.forms = subst (λ l. Carries all c.loop-line.number l c.loop-line.forms) here c.loop-line.invariant.reads in
     let none = c.in-Err-NoForm.ensures.none (ap Err c.in-Err-NoForm.field-0-is) in
     let said_is = ap said c.bytes.ensures in
@@ -31,7 +32,7 @@ loop-line-preserved c =
     let i = c.loop-line.line-index in
     let line = c.line-item.result in
     let all = numbered 1 texts in
-    let here = line_at texts i line c.loop-line-test.true c.line-item.is in
+    let here = drop_at texts i line c.loop-line-test.true c.line-item.is in
     let left : Carries all c.loop-line.number (line ∷ drop (i + 1) texts) c.loop-line.forms = subst (λ l. Carries all c.loop-line.number l c.loop-line.forms) here c.loop-line.invariant.reads in
     record {
       counts = omega arith;

@@ -8,14 +8,14 @@ use Rattle.job_text.proofs.nests.guards_from.Goals as goal
 
 pub loop-guards-init : goal.loop-guards-init
 loop-guards-init c = record {
-  carries = λ n below. rw (c.from_vec-guards.ensures ∙ c.in_ok-with_capacity.ensures.items) (carries_first guard_at comma_at n tt c.args.tokens.now below);
+  carries = λ n below. rw c.new-guards.ensures (carries_first guard_at comma_at n tt c.args.tokens.now below);
   within = omega arith;
 }
 
 pub returns-in_err-guard-clause-value : goal.returns-in_err-guard-clause-value
 returns-in_err-guard-clause-value c = λ n below.
     let all = guards_from n c.args.tokens.now in
-    gives_err seen c.from_residual-in_err-guard.result c.in_err-guard.field-0.0 (guard_at tt c.loop-guards.rest.now) all (err_from_is_err_and c.from_residual-in_err-guard.result c.from_residual-in_err-guard.ensures.1) c.in_err-guard.ensures.value
+    gives_err seen c.from_residual.result c.in_err-guard.field-0.0 (guard_at tt c.loop-guards.rest.now) all (err_from_is_err_and c.from_residual.result c.from_residual.ensures.1) c.in_err-guard.ensures.value
     (carries_fail guard_at comma_at c.loop-guards.guards tt c.loop-guards.rest.now all (c.loop-guards.invariant.carries n below))
 
 pub loop-guards-preserved : goal.loop-guards-preserved
@@ -24,7 +24,7 @@ loop-guards-preserved c =
     let guard = c.in_ok-guard.ensures.shorter in
     let next = c.in-Some.ensures.shorter in
     record {
-      carries = λ n below. rw c.in_ok-push.ensures.ok (carries_on guard_at comma_at c.loop-guards.guards tt c.loop-guards.rest.now
+      carries = λ n below. rw c.in_ok-guards-in-Some.ensures (carries_on guard_at comma_at c.loop-guards.guards tt c.loop-guards.rest.now
           (guards_from n c.args.tokens.now) (c.loop-guards.invariant.carries n below) tt c.in_ok-guard.after.now c.in-Some.next.now c.in_ok-guard.guard
           c.in_ok-guard.ensures.value (sym c.next_comma.ensures.value ∙ ap (option_map behind) c.in-Some.is) (omega arith));
       within = omega arith;
@@ -34,4 +34,4 @@ pub returns-in-None-clause-value : goal.returns-in-None-clause-value
 returns-in-None-clause-value c = λ n below.
     carries_end guard_at comma_at c.loop-guards.guards tt c.loop-guards.rest.now (guards_from n c.args.tokens.now) (c.loop-guards.invariant.carries n below)
     c.in_ok-guard.after.now c.in_ok-guard.guard c.in_ok-guard.ensures.value (sym c.next_comma.ensures.value ∙ ap (option_map behind) c.in-None.is)
-    ∙ ap (λ items. Some (items, c.in_ok-guard.after.now)) (sym c.in_ok-push.ensures.ok)
+    ∙ ap (λ items. Some (items, c.in_ok-guard.after.now)) (sym c.in_ok-with_last-in-None.ensures)

@@ -2,7 +2,8 @@ use Rattle.std.proofs.Common.{◌≡◌, ◌+◌, Some, None, option_map, drop, 
 use Rattle.std.proofs.lemmas.List.{drop_all}
 use Rattle.std.proofs.lemmas.Int.{ints, to_z-of_z}
 use Rattle.job_text.specs.WordReading.{onto, next_offset, offsets_from}
-use Rattle.job_text.proofs.OffsetLemmas.{onto-nil, drop_at, offsets_end, offsets_fail, offsets_on}
+use Rattle.job_text.proofs.OffsetLemmas.{onto-nil, offsets_end, offsets_fail, offsets_on}
+use Rattle.job_text.proofs.PlaceLemmas.{drop_at}
 use Rattle.job_text.proofs.offsets.rising.Goals as goal
 
 pub loop-word-init : goal.loop-word-init

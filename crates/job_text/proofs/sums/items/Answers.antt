@@ -10,7 +10,7 @@ use Rattle.job_text.proofs.sums.items.Goals as goal
 
 pub loop-init : goal.loop-init
 loop-init c = record {
-  carries = rw (c.from_vec-items.ensures ∙ c.in_ok-with_capacity.ensures.items) (with_front-nil _);
+  carries = rw c.new-items.ensures (with_front-nil _);
   within = omega arith;
 }
 
@@ -24,7 +24,7 @@ returns-in_err-item-clause-value c =
     let front = c.loop.items in
     let all = items_at c.args.minus c.args.tokens.now in
     let i = c.loop.counter in
-    gives_err seen c.from_residual-in_err-item.result c.in_err-item.field-0.0 (item_at c.loop.minus c.loop.rest.now) all (err_from_is_err_and c.from_residual-in_err-item.result c.from_residual-in_err-item.ensures.1) c.in_err-item.ensures.value
+    gives_err seen c.from_residual.result c.in_err-item.field-0.0 (item_at c.loop.minus c.loop.rest.now) all (err_from_is_err_and c.from_residual.result c.from_residual.ensures.1) c.in_err-item.ensures.value
     (reads_fail item_at sign_at front (8 - (i + 1)) c.loop.minus c.loop.rest.now all (so_far i front c.loop.minus c.loop.rest.now all c.loop-test.true c.loop.invariant.carries))
 
 pub returns-in-None-clause-value : goal.returns-in-None-clause-value
@@ -34,7 +34,7 @@ returns-in-None-clause-value c =
     let i = c.loop.counter in
     reads_end item_at sign_at front (8 - (i + 1)) c.loop.minus c.loop.rest.now all (so_far i front c.loop.minus c.loop.rest.now all c.loop-test.true c.loop.invariant.carries)
     c.in_ok-item.after.now c.in_ok-item.item c.in_ok-item.ensures.value (sym c.next_sign.ensures.value ∙ ap (option_map seen) c.in-None.is)
-    ∙ ap (λ items. Some (items, c.in_ok-item.after.now)) (sym c.in_ok-push.ensures.ok)
+    ∙ ap (λ items. Some (items, c.in_ok-item.after.now)) (sym c.in_ok-with_last-in-None.ensures)
 
 pub loop-preserved : goal.loop-preserved
 loop-preserved c =
@@ -42,7 +42,7 @@ loop-preserved c =
     let all = items_at c.args.minus c.args.tokens.now in
     let i = c.loop.counter in
     record {
-      carries = rw c.in_ok-push.ensures.ok (reads_on item_at sign_at front (8 - (i + 1)) c.loop.minus c.loop.rest.now all (so_far i front c.loop.minus c.loop.rest.now all c.loop-test.true c.loop.invariant.carries)
+      carries = rw c.in_ok-items-in-Some.ensures (reads_on item_at sign_at front (8 - (i + 1)) c.loop.minus c.loop.rest.now all (so_far i front c.loop.minus c.loop.rest.now all c.loop-test.true c.loop.invariant.carries)
           c.in-Some.sign c.in_ok-item.after.now c.in-Some.next.now c.in_ok-item.item c.in_ok-item.ensures.value (sym c.next_sign.ensures.value ∙ ap (option_map seen) c.in-Some.is));
       within = let item = c.in_ok-item.ensures.shorter in let next = c.in-Some.ensures.shorter in omega arith;
     }

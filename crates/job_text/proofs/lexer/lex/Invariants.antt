@@ -2,7 +2,7 @@
 use Rattle.std.proofs.Common.{◌≡◌, ◌++◌, List, length}
 use Rattle.job_text.specs.declared.tokens.Token.{Token}
 use Rattle.job_text.specs.Tokens.{Lexes}
-use Rattle.job_text.proofs.lexer.tokens.Given as goal
+use Rattle.job_text.proofs.lexer.lex.Given as goal
 
 abbrev pub invariant-loop-start : goal.invariant-loop-start
 invariant-loop-start l = record {
