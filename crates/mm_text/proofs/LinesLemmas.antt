@@ -187,6 +187,7 @@ integer-word (x ∷ xs) spelled =
     natural-digits : (xs : List ℕ) → is_natural xs ≡ true → list_all is_digit xs ≡ true
     natural-digits [] spelled = refl
     natural-digits (x ∷ xs) spelled = spelled
+
     sign-blank : (b : ℕ) → (b == 45 || b == 43) ≡ true → is_blank b ≡ false
     sign-blank b signed =
         elim (or_cases (b == 45) (b == 43) signed) [
