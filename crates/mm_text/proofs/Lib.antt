@@ -1,5 +1,6 @@
 pub mod AppendLemmas
 pub mod LinesLemmas
+pub mod NumeralLemmas
 pub mod NumberWordLemmas
 pub mod PlacesLemmas
 pub mod EntriesLemmas

@@ -1,16 +1,16 @@
 -- Lines and words, piece by piece.
-use Rattle.std.proofs.Common.{◌≡◌, nat_le, ℕ, suc, ◌+◌, ◌<◌, ◌≤◌, Bool, true, false, not, List, [], ◌∷◌, ◌++◌, length, take, drop, get_or, refl, ap, ◌∙◌, inl, inr, arith, ◌==◌}
-use Rattle.std.proofs.lemmas.Bool.{cases_Bool, or_parts, or_from, not-true, cases_lt, cases_eq, lt-ltb, le-ltb, leb-true, ne_eqb, and_parts, and_right, both_ways}
+use Rattle.std.proofs.Common.{◌≡◌, nat_le, ℕ, suc, ◌+◌, ◌<◌, ◌≤◌, Bool, true, false, not, List, [], ◌∷◌, ◌++◌, length, take, drop, get_or, filter, refl, ap, ◌∙◌, inl, inr, arith, ◌==◌, ◌||◌}
+use Rattle.std.proofs.lemmas.Bool.{cases_Bool, false≢true, eqb-true, or_cases, or_parts, or_from, not-true, cases_lt, cases_eq, lt-ltb, le-ltb, leb-true, ne_eqb, and_parts, and_right, both_ways}
 use Rattle.std.proofs.lemmas.List.Folds.{list_all_at}
 use Rattle.std.specs.List.{list_all}
-use Rattle.mm_profile.specs.Numbers.{is_digit, is_natural}
+use Rattle.mm_profile.specs.Numbers.{is_digit, is_natural, is_minus, is_plus, is_integer}
 use Rattle.std.proofs.lemmas.List.{get_or-drop, get_or-take, length-drop, length-take, nil_from_length}
 use Rattle.std.proofs.lemmas.List.Sums.{passes_at_first, position_or_len_is, prefix_len-le-length, AllPass-from_list_all}
 use Rattle.std.specs.Prelude.{position, unwrap_or}
 use Rattle.std.proofs.Math.Nat.{add-zero}
 use Rattle.std.specs.List.{position_or_len, list_any}
 use Rattle.mm_profile.specs.Profile.{is_skipped}
-use Rattle.mm_profile.specs.Lines.{longer, cut, is_blank, words}
+use Rattle.mm_profile.specs.Lines.{longer, cut, is_blank, is_empty, words}
 
 -- the pieces of a text that begins with this byte
 pub longer-cut : (ends : ℕ → Bool) (b : ℕ) (xs : List ℕ) → longer b (cut ends xs) ≡ (b ∷ take (position_or_len ends xs) xs) ∷ cut ends (drop (position_or_len ends xs + 1) xs)
@@ -103,7 +103,7 @@ digit-blank b digit =
     or_from _ _ (ne_eqb b 32 (λ e. omega (arith, e, above))) (ne_eqb b 9 (λ e. omega (arith, e, above)))
 
 -- no blank stands among digits
-digits-blank : (xs : List ℕ) (k j : ℕ) → list_all is_digit (take k xs) ≡ true → j < k → j < length xs → is_blank (get_or xs j 0) ≡ false
+pub digits-blank : (xs : List ℕ) (k j : ℕ) → list_all is_digit (take k xs) ≡ true → j < k → j < length xs → is_blank (get_or xs j 0) ≡ false
 digits-blank xs k j digits below inside =
     let within : j < length (take k xs) = omega (arith, length-take k xs, below, inside) in
     digit-blank (get_or xs j 0) (rw (← get_or-take k xs j 0 below) (AllPass-from_list_all is_digit (take k xs) digits j 0 within))
@@ -152,3 +152,45 @@ cut_whole ends x [] none = rw (or_parts (ends x) false none).0 refl
 cut_whole ends x (y ∷ front) none =
     let parts = or_parts (ends x) (list_any ends (y ∷ front)) none in
     rw parts.0 (ap (longer x) (cut_whole ends y front parts.1))
+
+-- a blank at the start of a text belongs to no word
+pub words_blank : (xs : List ℕ) → 0 < length xs → is_blank (get_or xs 0 0) ≡ true → words (drop 1 xs) ≡ words xs
+words_blank [] some blank = absurd (omega arith)
+words_blank (x ∷ xs) some blank = rw blank refl
+
+-- no byte of a text of digits is a blank
+digits_none : (xs : List ℕ) → list_all is_digit xs ≡ true → list_any is_blank xs ≡ false
+digits_none [] digits = refl
+digits_none (x ∷ xs) digits =
+    let parts = and_parts (is_digit x) (list_all is_digit xs) digits in
+    or_from _ _ (digit-blank x parts.0) (digits_none xs parts.1)
+
+one_word : (x : ℕ) (xs : List ℕ) → is_blank x ≡ false → list_any is_blank xs ≡ false → words (x ∷ xs) ≡ (x ∷ xs) ∷ []
+one_word x xs first rest = ap (filter (λ word. not (is_empty word))) (cut_whole is_blank x xs (or_from _ _ first rest))
+
+-- a text that spells a number is one word
+pub natural-word : (xs : List ℕ) → is_natural xs ≡ true → words xs ≡ xs ∷ []
+natural-word [] spelled = absurd (false≢true spelled)
+natural-word (x ∷ xs) spelled =
+    let parts = and_parts (is_digit x) (list_all is_digit xs) spelled in
+    one_word x xs (digit-blank x parts.0) (digits_none xs parts.1)
+
+-- with a sign too
+pub integer-word : (xs : List ℕ) → is_integer xs ≡ true → words xs ≡ xs ∷ []
+integer-word [] spelled = absurd (false≢true spelled)
+integer-word (x ∷ xs) spelled =
+    elim (cases_Bool (is_minus (x ∷ xs) || is_plus (x ∷ xs))) [
+      | inl signed ↦ one_word x xs (sign-blank x signed) (digits_none xs (natural-digits xs (rw signed at spelled)))
+      | inr bare ↦ natural-word (x ∷ xs) (rw bare at spelled)
+    ]
+  where
+    natural-digits : (xs : List ℕ) → is_natural xs ≡ true → list_all is_digit xs ≡ true
+    natural-digits [] spelled = refl
+    natural-digits (x ∷ xs) spelled = spelled
+
+    sign-blank : (b : ℕ) → (b == 45 || b == 43) ≡ true → is_blank b ≡ false
+    sign-blank b signed =
+        elim (or_cases (b == 45) (b == 43) signed) [
+          | inl minus ↦ or_from _ _ (ne_eqb b 32 (λ e. omega (arith, e, eqb-true b 45 minus))) (ne_eqb b 9 (λ e. omega (arith, e, eqb-true b 45 minus)))
+          | inr plus ↦ or_from _ _ (ne_eqb b 32 (λ e. omega (arith, e, eqb-true b 43 plus))) (ne_eqb b 9 (λ e. omega (arith, e, eqb-true b 43 plus)))
+        ]

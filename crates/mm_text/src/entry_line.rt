@@ -3,11 +3,11 @@ ghost use Rattle.mm_profile.specs.Lines.{words, word_at};
 ghost use Rattle.mm_profile.specs.Numbers.{Whole, integer};
 ghost use Rattle.mm_profile.specs.Sizes.{number_at, is_square};
 ghost use Rattle.mm_profile.specs.Places.{Place, Stated, At};
-ghost use Rattle.mm_profile.specs.Entries.{mirrored, is_skew, counted_of, valued, is_index, placed, is_stated_line, entry_of};
+ghost use Rattle.mm_profile.specs.Entries.{mirrored, is_skew, counted_of, valued, is_index, placed, is_stated_line, is_listed_line, entry_of};
 ghost use Rattle.mm_text.specs.Naturals.{StandsFor, IsNumber};
 ghost use Rattle.mm_text.specs.Counts.{counted_list, listed, are_inside};
 
-use crate::number_words::next_natural;
+use crate::number_words::{next_natural, plain_natural};
 use crate::numerals::{Natural, Number, read_integer};
 use crate::size_line::two_numbers;
 use crate::word_list::one_word;
@@ -105,8 +105,8 @@ fn placed(head: &Head, row: Natural, col: Natural, number: Number) -> Result<Cou
     valued(head, row, col, number)
 }
 
-/// The row, the column and the value of a line that names all three.
-fn place_and_value(line: &[u8]) -> Option<(Natural, Natural, Number)>
+/// The row, the column and the value of a line that names all three, with any blanks.
+fn spaced_place_and_value(line: &[u8]) -> Option<(Natural, Natural, Number)>
     ensures { MatchOption result
         (is_stated_line Field.Integer (words line.now) ≡ false)
         (λ n. (is_stated_line Field.Integer (words line.now) ≡ true)
@@ -118,6 +118,34 @@ fn place_and_value(line: &[u8]) -> Option<(Natural, Natural, Number)>
     let (col, after_col) = next_natural(after_row)?;
     let value = read_integer(one_word(after_col)?)?;
     Some((row, col, value))
+}
+
+/// The same of a line that has one blank after each index and no other. None says nothing of the line.
+fn plain_place_and_value(line: &[u8]) -> Option<(Natural, Natural, Number)>
+    ensures { IfSome result (λ n. (is_stated_line Field.Integer (words line.now) ≡ true)
+        × StandsFor n.0 (number_at (words line.now) 0)
+        × StandsFor n.1 (number_at (words line.now) 1)
+        × IsNumber n.2 (integer (word_at (words line.now) 2))) }
+{
+    let (row, after_row) = plain_natural(line)?;
+    let (col, after_col) = plain_natural(after_row)?;
+    let value = read_integer(after_col)?;
+    Some((row, col, value))
+}
+
+/// The row, the column and the value of a line that names all three. Nearly all lines are plain, and those are looked at once.
+fn place_and_value(line: &[u8]) -> Option<(Natural, Natural, Number)>
+    ensures { MatchOption result
+        (is_stated_line Field.Integer (words line.now) ≡ false)
+        (λ n. (is_stated_line Field.Integer (words line.now) ≡ true)
+        × StandsFor n.0 (number_at (words line.now) 0)
+        × StandsFor n.1 (number_at (words line.now) 1)
+        × IsNumber n.2 (integer (word_at (words line.now) 2))) }
+{
+    match plain_place_and_value(line) {
+        Some(plain) => Some(plain),
+        None => spaced_place_and_value(line),
+    }
 }
 
 /// What a line counts for that names its place.
@@ -142,6 +170,18 @@ pub(crate) fn stated_entry(head: &Head, line: &[u8]) -> Result<Counted, Rule>
     }
 }
 
+/// The value of a line that is one value. Most lines have no blank, and those are looked at once.
+fn one_value(line: &[u8]) -> Option<Number>
+    ensures { MatchOption result
+        (is_listed_line (words line.now) ≡ false)
+        (λ n. (is_listed_line (words line.now) ≡ true) × IsNumber n (integer (word_at (words line.now) 0))) }
+{
+    match read_integer(line) {
+        Some(value) => Some(value),
+        None => read_integer(one_word(line)?),
+    }
+}
+
 /// What a line counts for that comes for this place.
 pub(crate) fn listed_entry(head: &Head, row: u32, col: u32, line: &[u8]) -> Result<Counted, Rule>
     requires row { row < head.now.rows }
@@ -150,10 +190,7 @@ pub(crate) fn listed_entry(head: &Head, row: u32, col: u32, line: &[u8]) -> Resu
     ensures entry { listed result ≡ entry_of head.now (At row col) (words line.now) }
     ensures inside { IfOk result (λ c. IsTrue (are_inside head.now.rows head.now.cols (counted_list c))) }
 {
-    let Some(word) = one_word(line) else {
-        return Err(Rule::M6);
-    };
-    let Some(value) = read_integer(word) else {
+    let Some(value) = one_value(line) else {
         return Err(Rule::M6);
     };
     valued(head, row, col, value)

@@ -40,8 +40,8 @@ impl Natural {
     }
 }
 
-/// The greatest number to which a digit can be appended, whatever it is.
-const LAST_FRONT: u64 = 1_844_674_407_370_955_160;
+/// So many digits always spell a number below 2^64.
+const SURE_DIGITS: usize = 19;
 
 fn is_digit(byte: u8) -> bool
     ensures { result ≡ is_digit byte }
@@ -56,15 +56,16 @@ pub(crate) fn digits_front(bytes: &[u8]) -> Option<(u64, usize)>
     ensures number { IfSome result (λ n. n.0 ≡ natural (take n.1 bytes.now)) }
     ensures all { IfSome result (λ n. n.1 < length bytes.now → is_digit (slice_index bytes.now n.1) ≡ false) }
 {
+    let front = &bytes[..bytes.len().min(SURE_DIGITS)];
     let mut number: u64 = 0;
-    for (at, byte) in bytes.iter().enumerate() {
+    for (at, byte) in front.iter().enumerate() {
         if !is_digit(*byte) {
             return Some((number, at));
         }
-        if number > LAST_FRONT {
-            return None;
-        }
         number = number * 10 + (*byte - b'0') as u64;
+    }
+    if front.len() < bytes.len() {
+        return None;
     }
     Some((number, bytes.len()))
 }
