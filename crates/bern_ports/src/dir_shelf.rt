@@ -1,4 +1,4 @@
-ghost use Rattle.std.specs.Prelude.{None, [], false, is_some};
+ghost use Rattle.std.specs.Prelude.{◌≡◌, None, [], false, is_some};
 
 use crate::faults::fault;
 use crate::ports::{Failed, Shelf};
@@ -16,7 +16,11 @@ pub struct DirShelf<R: Files> {
 }
 
 impl<R: Files> DirShelf<R> {
-    pub fn new(rt: R) -> DirShelf<R> {
+    /// A shelf of which no file is begun and no call has failed.
+    pub fn new(rt: R) -> DirShelf<R>
+        ensures begun { is_some result.file ≡ false }
+        ensures faults { result.faults ≡ 0 }
+    {
         DirShelf {
             rt,
             file: None,

@@ -1,4 +1,4 @@
-ghost use Rattle.std.specs.Prelude.{◌≡◌, ◌↔◌, ◌<◌, ◌≤◌, length, replicate, min, Some, IfOk, IsTrue, true, false, ◌==◌, ◌-◌, ◌+◌, slice_index, slice_set, take, drop, ◌++◌, [], ◌^◌, is_err, IsOk, IsSome, OnErr, OnOk, cond};
+ghost use Rattle.std.specs.Prelude.{◌≡◌, ◌↔◌, ◌<◌, ◌≤◌, length, replicate, min, Some, IfOk, IsTrue, true, false, ◌==◌, ◌-◌, ◌+◌, slice_index, slice_set, take, drop, ◌++◌, [], ◌^◌, is_err, IsOk, IsSome, OnErr, OnOk};
 ghost use Rattle.bern_ports.specs.Files.{file_at, place_of, bytes_of, AreOnce, BlamesOnly, StandsAtStart};
 ghost use Rattle.bern_ports.specs.MemShelf.{count_of, counted, one_more, is_listed, is_faulty};
 ghost use Rattle.bern_ports.specs.Causes.{HasCause};

@@ -1,4 +1,4 @@
-ghost use Rattle.std.specs.Prelude.{None};
+ghost use Rattle.std.specs.Prelude.{◌≡◌, None};
 ghost use Rattle.std.specs.Io.{WritesAtMost};
 
 use crate::faults::fault;
@@ -20,16 +20,20 @@ pub struct StdSink {
 }
 
 impl StdSink {
-    /// Standard output.
-    pub fn out(rt: &HostRuntime) -> StdSink {
+    /// Standard output; no write has failed.
+    pub fn out(rt: &HostRuntime) -> StdSink
+        ensures faults { result.faults ≡ 0 }
+    {
         StdSink {
             stream: Stream::Out(rt.stdout()),
             faults: 0,
         }
     }
 
-    /// Standard error.
-    pub fn err(rt: &HostRuntime) -> StdSink {
+    /// Standard error; no write has failed.
+    pub fn err(rt: &HostRuntime) -> StdSink
+        ensures faults { result.faults ≡ 0 }
+    {
         StdSink {
             stream: Stream::Err(rt.stderr()),
             faults: 0,

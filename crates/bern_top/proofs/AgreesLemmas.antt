@@ -8,6 +8,7 @@ use Rattle.bern_top.specs.declared.load_error.LoadError.{LoadError}
 use Rattle.bern_top.specs.declared.load_error.LoadError.TheVariants as e
 use Rattle.bern_top.specs.Answers.{EndsOnly, Agrees, BlamesOne, IsBlamed, RoseAtFault, HasFaultCause, IsFaultAt, IsRefusalOf, IsOnly}
 use Rattle.bern_top.specs.Walk.{Ending, Done, Refuses, Absent, Reads, Spells}
+use Rattle.bern_top.proofs.WritingLemmas.{rose_again}
 
 -- nothing is spelled: the refusal
 only_refused : {X : Type 0} (P : X → Type 0) (next : X → Ending → Type 0) (refusal r : Refusal) → r ≡ refusal → ((x : X) → P x → ⊥) → EndsOnly (Spells P next refusal) (Refuses r)
@@ -64,10 +65,7 @@ fault_agrees run comes name e.NoMemory there is = tt
 rose_before : {T : Type 0} (k m n : ℕ) (result : Result T LoadError) → k ≤ m → RoseAtFault m n result → RoseAtFault k n result
 rose_before k m n (Ok x) up rose = rose
 rose_before k m n (Err (e.Refused r)) up rose = rose
-rose_before k m n (Err (e.ReadFault file)) up rose = earlier k m n up rose
-  where
-    earlier : (a b c : ℕ) → a ≤ b → Rose b c → Rose a c
-    earlier a b c up rose = omega (arith, up, rose)
+rose_before k m n (Err (e.ReadFault file)) up rose = rose_again k m n up rose
 rose_before k m n (Err e.NoMemory) up rose = rose
 
 pub cause_before : {T : Type 0} (k m n : ℕ) (result : Result T LoadError) → k ≤ m → HasFaultCause m n result → HasFaultCause k n result

@@ -10,7 +10,8 @@ use Rattle.bern_top.specs.Answers.{Port, StopsWithin, Writes}
 abbrev pub port : Option (List ℕ) → Option (List ℕ) → ℕ → ℕ → Port
 port old new before now = record { old = old; new = new; before = before; now = now }
 
-rose_again : (a b c : ℕ) → a ≤ b → Rose b c → Rose a c
+-- a count that rose later rose from before
+pub rose_again : (a b c : ℕ) → a ≤ b → Rose b c → Rose a c
 rose_again a b c up rose = omega (arith, up, rose)
 
 rose_later : (a b c : ℕ) → Rose a b → b ≤ c → Rose a c

@@ -5,11 +5,12 @@ use Rattle.std.specs.Option.{option_map}
 use Rattle.std.proofs.Math.Nat.{zero-add}
 use Rattle.std.proofs.lemmas.Bool.{cases_eq, cond-true, and_parts, ltb-true}
 use Rattle.std.proofs.lemmas.Option.{slice_get-map}
-use Rattle.std.proofs.lemmas.List.{map-id, nil_from_length}
+use Rattle.std.proofs.lemmas.List.{nil_from_length}
 use Rattle.std.proofs.lemmas.List.Concat.{flat_map-append}
 use Rattle.std.proofs.lemmas.List.Elements.{filter-append, filter_passes}
 use Rattle.std.proofs.lemmas.List.FromFn.{map-range_with_len_more}
 use Rattle.bern_base.specs.declared.letter.Letter.{Letter}
+use Rattle.placement.specs.PlacementLaws.{range_more}
 use Rattle.rank_scripts.specs.Acts.{at_work, at_post, at_end}
 use Rattle.rank_scripts.specs.Nodes as scripted
 use Rattle.rank_scripts.specs.Ranks.{sum_below}
@@ -31,10 +32,6 @@ use Rattle.rank_node.proofs.ListLemmas.{get_or-read_at}
 use Rattle.interleave.proofs.WorldLemmas.{within}
 use Rattle.interleave.specs.declared.event.Event.{Event}
 use Rattle.interleave.specs.Worlds.{event_of, events_of, all_events, enabled_events, node_or, node_in, world_in, IsAmong, IsFit, AreAtEnd}
-
--- one number further
-range_more : (n : ℕ) → range_with_len 0 (n + 1) ≡ range_with_len 0 n ++ n ∷ []
-range_more n = sym (map-id (range_with_len 0 (n + 1))) ∙ map-range_with_len_more (λ x. x) 0 n n (zero-add n) ∙ ap (λ xs. xs ++ n ∷ []) (map-id (range_with_len 0 n))
 
 -- one more take of a rank
 pub take_more_event : (p : worlds.Event → Bool) (r n : ℕ) (old before after : List worlds.Event) →

@@ -22,7 +22,7 @@ kept_behind p x xs y d (l, below, is) =
       | false ↦ (l, below, is)
     ]
 
-kept : {X : Type 0} (p : X → Bool) (xs : List X) (k : ℕ) (d : X) → k < length xs → p (get_or xs k d) ≡ true → (l : ℕ) × (l < length (filter p xs)) × (get_or (filter p xs) l d ≡ get_or xs k d)
+pub kept : {X : Type 0} (p : X → Bool) (xs : List X) (k : ℕ) (d : X) → k < length xs → p (get_or xs k d) ≡ true → (l : ℕ) × (l < length (filter p xs)) × (get_or (filter p xs) l d ≡ get_or xs k d)
 kept p [] k d below pass = absurd (omega (arith, below))
 kept p (x ∷ xs) zero d below pass = rw (cond-true (p x) (x ∷ filter p xs) (filter p xs) pass) (0, omega arith, refl)
 kept p (x ∷ xs) (suc k) d below pass = kept_behind p x xs (get_or xs k d) d (kept p xs k d (omega (arith, below)) pass)

@@ -3,7 +3,7 @@ use Rattle.std.proofs.Common.{◌≡◌, ℕ, ◌+◌, ◌%◌, ◌^◌, ◌<◌
 use Rattle.std.specs.List.{All, range_with_len}
 use Rattle.std.proofs.Math.Nat.{zero-add, add-mod-mod, mod-add-mod}
 use Rattle.std.proofs.lemmas.Bool.{cases_eq, cases_Bool, eq-eqb, ne_eqb, eqb-true, eqb-false}
-use Rattle.std.proofs.lemmas.List.{get_or-set_same, get_or-map, length-map, get_or-replicate, length-replicate, same_lists}
+use Rattle.std.proofs.lemmas.List.{get_or-set_same, get_or-map, length-map, get_or-replicate, same_lists}
 use Rattle.std.proofs.lemmas.List.Elements.{All-head, All-tail}
 use Rattle.std.proofs.lemmas.List.Folds.{list_any_at}
 use Rattle.std.proofs.lemmas.List.Sums.{sum_by-cons}
@@ -13,7 +13,7 @@ use Rattle.bern_base.specs.declared.matrix.Entry.{Entry}
 use Rattle.bern_base.specs.Ring.{ring_add}
 use Rattle.dense_model.specs.State.{read}
 use Rattle.placement.specs.Placement.{owner_of, local_of, owned_indices, owned_of, global_of}
-use Rattle.placement.specs.PlacementLaws.{owner-below, global-below, global-owner-local, owner-global, local-global}
+use Rattle.placement.specs.PlacementLaws.{kept, owner-below, global-below, global-owner-local, owner-global, local-global}
 use Rattle.placement.specs.Part.{localized}
 use Rattle.placement.proofs.IndexLemmas.{length-owned_indices, get_or-owned_indices}
 use Rattle.rank_model.specs.Runs.{Run, IsRun, is_home, answer, answer_part, part_values}
@@ -21,8 +21,9 @@ use Rattle.rank_model.specs.Sets.{reads}
 use Rattle.rank_model.specs.States.{term_at, end_value, end_state}
 use Rattle.rank_node.specs.Waits.{AreKnown}
 use Rattle.rank_node.specs.Sums.{is_inner, inner_term, outer_term, HaveGrown, sums_of}
+use Rattle.rank_node.proofs.ListLemmas.{length-zeros}
 use Rattle.rank_node.proofs.SourceLemmas.{own_read}
-use Rattle.rank_node.proofs.KnownLemmas.{stands, read_received}
+use Rattle.rank_node.proofs.KnownLemmas.{read_received}
 
 -- a stored element of the run, and that its rank reads it where it has its home there
 pub record IsReady (run : Run) (r : ℕ) (e : Entry) : Type 0 where
@@ -38,7 +39,7 @@ all_ready run r is k d below =
       row = inside.0;
       col = inside.1;
       read = λ home.
-          let found = stands (is_home run r) run.entries k d below home in
+          let found = kept (is_home run r) run.entries k d below home in
           list_any_at (λ x. x.col == e.col) (answer run r) found.0 d found.1 (ap (λ x. x.col == e.col) found.2 ∙ eq-eqb e.col e.col refl);
     }
 
@@ -124,7 +125,7 @@ end_part run r own known values s1 s2 is own_is are values_are inner outer =
     let g_below : g < length run.place = global-below is.placed r l owned in
     let old : get_or values l 0 ≡ read run.first run.target g = ap (λ xs. get_or xs l 0) values_are ∙ get_or-map (read run.first run.target) (owned_indices run.place r) l 0 0 (rw (length-owned_indices run.place r) owned) ∙ ap (read run.first run.target) (get_or-owned_indices run.place r l) in
     let zeros : get_or (replicate count 0) l 0 ≡ 0 = get_or-replicate count l 0 0 owned in
-    let at_first : l < length (replicate count 0) = rw (length_zeros count) owned in
+    let at_first : l < length (replicate count 0) = rw (length-zeros count) owned in
     let first : get_or s1 l 0 % 2 ^ 64 ≡ (0 + sum_by (inner_term run.place r own l) (answer_part run r)) % 2 ^ 64 = inner.sums l at_first ∙ ap (λ a. (a + sum_by (inner_term run.place r own l) (answer_part run r)) % 2 ^ 64) zeros in
     let second = outer.sums l (rw inner.long at_first) in
     let sum = sums_split run r l own known run.entries is own_is are owned (all_ready run r is) in
@@ -136,6 +137,3 @@ end_part run r own known values s1 s2 is own_is are values_are inner outer =
     ap (λ v. (v + (sum_by (inner_term run.place r own l) (answer_part run r) + sum_by (outer_term run.place r known l) (answer_part run r))) % 2 ^ 64) old ∙
     ap (λ s. (read run.first run.target g + s) % 2 ^ 64) sum ∙ sym end ∙ ap (read (end_state run) run.target) (sym held_at) ∙
     sym (get_or-map (read (end_state run) run.target) (run.held run.target r) l 0 d (rw held owned)))
-  where
-    length_zeros : (n : ℕ) → length (replicate n (let none : ℕ = 0 in none)) ≡ n
-    length_zeros n = length-replicate n (let none : ℕ = 0 in none)

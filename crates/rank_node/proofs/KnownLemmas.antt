@@ -1,14 +1,15 @@
 -- What a rank knows of D from the letters that it was given.
-use Rattle.std.proofs.Common.{◌≡◌, ℕ, zero, suc, ◌+◌, ◌<◌, ◌≤◌, Bool, true, false, cond, ◌==◌, not, List, [], ◌∷◌, length, take, map, filter, get_or, refl, sym, ap, ◌∙◌, subst, inl, inr, arith}
+use Rattle.std.proofs.Common.{◌≡◌, ℕ, ◌+◌, ◌<◌, ◌≤◌, true, false, ◌==◌, not, List, [], ◌∷◌, length, take, map, filter, get_or, refl, sym, ap, ◌∙◌, subst, inl, inr, arith}
 use Rattle.std.specs.List.{range_with_len, cons_option}
 use Rattle.std.proofs.Math.Nat.{zero-add}
-use Rattle.std.proofs.lemmas.Bool.{cases_eq, cond-true, leb-true, and_right, eq-eqb, ne_eqb}
+use Rattle.std.proofs.lemmas.Bool.{cases_eq, leb-true, and_right, eq-eqb, ne_eqb}
 use Rattle.std.proofs.lemmas.List.{get_or-map}
 use Rattle.std.proofs.lemmas.List.FromFn.{length-range_with_len, get_or-range_with_len}
 use Rattle.bern_base.specs.declared.letter.Letter.{Letter}
 use Rattle.bern_base.specs.declared.letter.Letter.TheVariants as letter
 use Rattle.dense_model.specs.State.{read}
 use Rattle.placement.specs.Placement.{owner_of}
+use Rattle.placement.specs.PlacementLaws.{kept}
 use Rattle.rank_scripts.specs.Scripts.{named}
 use Rattle.rank_scripts.specs.Nodes.{has_all}
 use Rattle.rank_scripts.proofs.RankLemmas.{all_below_at}
@@ -70,27 +71,12 @@ received_values run n q is at below =
           (omega arith)
     ]
 
--- what passes stands among what passes
-stands_behind : {X : Type 0} (p : X → Bool) (y : X) (xs : List X) (x d : X) → (k : ℕ) × (k < length (filter p xs)) × (get_or (filter p xs) k d ≡ x) →
-    (k : ℕ) × (k < length (filter p (y ∷ xs))) × (get_or (filter p (y ∷ xs)) k d ≡ x)
-stands_behind p y xs x d (k, below, is) =
-    elim (p y) as (λ b. (j : ℕ) × (j < length (cond b (y ∷ filter p xs) (filter p xs))) × (get_or (cond b (y ∷ filter p xs) (filter p xs)) j d ≡ x)) [
-      | true ↦ (suc k, omega (arith, below), is)
-      | false ↦ (k, below, is)
-    ]
-
-pub stands : {X : Type 0} (p : X → Bool) (xs : List X) (k : ℕ) (d : X) → k < length xs → p (get_or xs k d) ≡ true →
-    (j : ℕ) × (j < length (filter p xs)) × (get_or (filter p xs) j d ≡ get_or xs k d)
-stands p [] k d below passes = absurd (omega (arith, below))
-stands p (x ∷ xs) zero d below passes = rw (cond-true (p x) (x ∷ filter p xs) (filter p xs) passes) (0, omega arith, refl)
-stands p (x ∷ xs) (suc k) d below passes = stands_behind p x xs (get_or xs k d) d (stands p xs k d (omega (arith, below)) passes)
-
 received_stands : (run : Run) (r q w : ℕ) → is_received run.place (answer run r) r q w ≡ true → w < length run.place →
     (j : ℕ) × (j < length (receive run r q)) × (get_or (receive run r q) j 0 ≡ w)
 received_stands run r q w passes below =
     let p = is_received run.place (answer run r) r q in
     let at : get_or (range_with_len 0 (length run.place)) w 0 ≡ w = get_or-range_with_len 0 (length run.place) w 0 below ∙ zero-add w in
-    let found = stands p (range_with_len 0 (length run.place)) w 0 (rw (length-range_with_len 0 (length run.place)) below) (ap p at ∙ passes) in
+    let found = kept p (range_with_len 0 (length run.place)) w 0 (rw (length-range_with_len 0 (length run.place)) below) (ap p at ∙ passes) in
     (found.0, found.1, found.2 ∙ at)
 
 pub known_none : (run : Run) (r count : ℕ) (known : List ℕ) → length known ≡ count → count ≡ length run.place → AreKnown run r 0 known

@@ -1,6 +1,7 @@
 -- An element by its index, as code reads it and as contracts do.
-use Rattle.std.proofs.Common.{◌≡◌, ℕ, zero, suc, ◌+◌, ◌<◌, ◌≤◌, List, [], ◌∷◌, Some, length, get_or, slice_get, refl, inl, inr, arith}
+use Rattle.std.proofs.Common.{◌≡◌, ℕ, zero, suc, ◌+◌, ◌<◌, ◌≤◌, List, [], ◌∷◌, Some, length, get_or, slice_get, replicate, refl, inl, inr, arith}
 use Rattle.std.proofs.lemmas.Bool.{cases_eq}
+use Rattle.std.proofs.lemmas.List.{length-replicate}
 
 pub get_or-read_at : {A : Type 0} (xs : List A) (i : ℕ) (x d : A) → slice_get xs i ≡ Some x → get_or xs i d ≡ x
 get_or-read_at [] i x d e = absurd (cc)
@@ -17,3 +18,6 @@ some_length (x ∷ xs) some = omega arith
 
 pub some_same : {A : Type 0} {x y : A} → Some x ≡ Some y → x ≡ y
 some_same e = cc
+
+pub length-zeros : (n : ℕ) → length (replicate n (let none : ℕ = 0 in none)) ≡ n
+length-zeros n = length-replicate n (let none : ℕ = 0 in none)

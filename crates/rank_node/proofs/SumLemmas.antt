@@ -2,13 +2,14 @@
 use Rattle.std.proofs.Common.{◌≡◌, ℕ, zero, suc, ◌+◌, ◌*◌, ◌%◌, ◌^◌, ◌<◌, ◌≤◌, cond, ◌==◌, List, [], ◌∷◌, ◌++◌, length, map, take, get_or, set, replicate, sym, ap, ◌∙◌, refl, inl, inr, arith}
 use Rattle.std.specs.List.{sum_by, range_with_len}
 use Rattle.std.proofs.lemmas.Bool.{cases_eq, cases_lt}
-use Rattle.std.proofs.lemmas.List.{get_or-set_same, get_or-set_other, length-set, set_past, get_or_read, take_all, length-replicate, get_or-replicate}
+use Rattle.std.proofs.lemmas.List.{get_or-set_same, get_or-set_other, length-set, set_past, get_or_read, take_all, get_or-replicate}
 use Rattle.std.proofs.lemmas.List.Sums.{sum_by_more}
 use Rattle.std.proofs.lemmas.List.FromFn.{map-range_with_len_more, fill_by_all}
 use Rattle.bern_base.specs.declared.matrix.Entry.{Entry}
 use Rattle.bern_base.specs.Matrix.{number}
 use Rattle.bern_base.specs.Ring.{ring_add}
 use Rattle.dense_model.specs.State.{element, matrix_values}
+use Rattle.rank_node.proofs.ListLemmas.{length-zeros}
 use Rattle.std.proofs.Math.Nat.{zero-add, add-mod-mod, mod-add-mod, mod-mod}
 
 -- the sums after the first i of the items
@@ -85,9 +86,6 @@ pub IsReduced-zeros : (n : ℕ) → IsReduced (replicate n 0)
 IsReduced-zeros zero l = refl
 IsReduced-zeros (suc n) zero = refl
 IsReduced-zeros (suc n) (suc l) = IsReduced-zeros n l
-
-length-zeros : (n : ℕ) → length (replicate n (let none : ℕ = 0 in none)) ≡ n
-length-zeros n = length-replicate n (let none : ℕ = 0 in none)
 
 -- one more value
 pub sums_push : (values sums before after : List ℕ) (at v x y : ℕ) → before ≡ map (λ k. ring_add (get_or values k 0) (get_or sums k 0)) (range_with_len 0 at) →

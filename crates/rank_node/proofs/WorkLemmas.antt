@@ -3,7 +3,7 @@ use Rattle.std.proofs.Common.{◌≡◌, ℕ, ◌<◌, true, false, cond, ◌==�
 use Rattle.std.specs.List.{All, range_with_len}
 use Rattle.std.proofs.Math.Nat.{zero-add}
 use Rattle.std.proofs.lemmas.Bool.{eqb-true, cases_eq, false≢true, cond-true, cond-false}
-use Rattle.std.proofs.lemmas.List.{length-map, length-replicate, length-set, get_or-set_same, get_or-set_other}
+use Rattle.std.proofs.lemmas.List.{length-map, length-set, get_or-set_same, get_or-set_other}
 use Rattle.std.proofs.lemmas.List.Elements.{All-map, All-filter, All-same, filter_passes, filter_agree}
 use Rattle.std.proofs.lemmas.List.FromFn.{get_or-map-range_with_len, length-map-range_with_len}
 use Rattle.bern_base.specs.declared.axes.Axis.TheVariants.{Row}
@@ -34,7 +34,7 @@ use Rattle.rank_node.specs.Sets.{asked_of, all_asked}
 use Rattle.rank_node.specs.Sums.{HaveGrown, inner_term, outer_term}
 use Rattle.rank_node.specs.NodeStates.{node_of, given_of, values_held, IsOfRun, IsTallied, IsNode}
 use Rattle.rank_node.proofs.NodeLemmas.{node_at, worked_same}
-use Rattle.rank_node.proofs.ListLemmas.{get_or-read_at}
+use Rattle.rank_node.proofs.ListLemmas.{get_or-read_at, length-zeros}
 use Rattle.rank_node.proofs.PositionLemmas.{post_request, post_values}
 
 -- a node with other values, sets, sums and another stage
@@ -231,11 +231,8 @@ target_inside run n is =
     let same = is.of_run.target in
     omega arith
 
-length_zeros : (n : ℕ) → length (replicate n (let none : ℕ = 0 in none)) ≡ n
-length_zeros n = length-replicate n (let none : ℕ = 0 in none)
-
 pub zeros_long : (n : ℕ) (zeros : List ℕ) → zeros ≡ replicate n 0 → length zeros ≡ n
-zeros_long n zeros are = ap length are ∙ length_zeros n
+zeros_long n zeros are = ap length are ∙ length-zeros n
 
 -- as many sums as the rank owns elements of T
 pub zeros_owned : (run : Run) (n : Node) (list zeros : List ℕ) (count : ℕ) → IsNode run n → state_of run n.stage ≡ run.first → slice_get n.values n.target ≡ Some list → count ≡ length list → zeros ≡ replicate count 0 →
@@ -251,7 +248,7 @@ inner_kept run n is summed =
     (ap (λ k. replicate k 0) (target_count run n.rank is.of_run.run_is)) refl (is.summed summed)
 
 pub inner_sums_long : (run : Run) (n : Node) → IsNode run n → is_summed n.stage ≡ true → length n.sums ≡ owned_of run.place n.rank
-inner_sums_long run n is summed = (inner_kept run n is summed).long ∙ length_zeros (owned_of run.place n.rank)
+inner_sums_long run n is summed = (inner_kept run n is summed).long ∙ length-zeros (owned_of run.place n.rank)
 
 -- the state of which a rank holds its part, by what it has still to do
 pub state_is : (run : Run) (r : ℕ) (stage : Stage) → HasItsLetter run r stage → state_of run stage ≡ cond (at_end (todo_of run r stage)) (end_state run) run.first
