@@ -1,1 +1,2 @@
+pub mod AffineLemmas
 pub mod RingLemmas

@@ -46,3 +46,19 @@ fn a_counter_takes_no_bytes(rt: HostRuntime) {
     tick_twice::<Brand>(Blank::new(1));
     assert_eq!(rt; std::mem::size_of::<Steps<Brand>>(), 0);
 }
+
+#[test]
+fn a_form_has_values_ends_and_solutions(rt: HostRuntime) {
+    let form = Affine::new(5, [2, -3, 0, 1]);
+    let point = Point::new([1, 2, 7, -4]);
+    assert_eq!(rt; form.eval(&point), -3);
+    assert_eq!(rt; form.range(&[(0, 3), (-1, 2), (0, 1), (2, 3)]), (4, 14));
+    assert_eq!(rt; form.solve(0, &point, 1), Some(3));
+    assert_eq!(rt; form.solve(0, &point, 2), None);
+    assert_eq!(rt; form.solve(1, &point, 9), Some(-2));
+    assert_eq!(rt; form.solve(1, &point, -10), None);
+    assert_eq!(rt;
+        form.solve(3, &point, 35_184_372_088_832),
+        Some(35_184_372_088_831)
+    );
+}
