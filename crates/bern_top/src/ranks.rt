@@ -47,6 +47,7 @@ pub(crate) fn product_on_ranks(
     requires long { vector.rows ≡ size }
     requires one { vector.cols ≡ 1 }
     ensures values { IfOk result (λ p. p.0 ≡ values_in (dense size (first_state size matrix.entries vector.entries)) 2) }
+    ensures long { IfOk result (λ p. length p.0 ≡ size) }
     ensures events { IfOk result (λ p. p.1 ≡ total (scripts (product_run size ranks matrix.entries vector.entries))) }
 {
     let arrays = Operands {

@@ -1,5 +1,6 @@
-use Rattle.std.proofs.Common.{◌≡◌, ℕ, map, sym, ap, ◌∙◌}
+use Rattle.std.proofs.Common.{◌≡◌, ℕ, length, map, sym, ap, ◌∙◌}
 use Rattle.std.specs.List.{range_with_len}
+use Rattle.std.proofs.lemmas.List.FromFn.{length-map-range_with_len}
 use Rattle.std.proofs.lemmas.Result.{IfOk-weaker}
 use Rattle.dense_model.specs.Dense.{dense, first_state}
 use Rattle.dense_model.specs.State.{values_in}
@@ -22,6 +23,13 @@ returns-clause-values c =
     ∙ product_end n c.args.ranks m.entries v.entries (square_inside m c.requires.matrix (c.requires.cols ∙ sym c.requires.rows)) (column_inside n v c.requires.vector long c.requires.one)
     ∙ ap (λ k. values_in (dense k (first_state k m.entries v.entries)) 2) c.requires.rows)
     c.run_through.ensures.values
+
+pub returns-clause-long : goal.returns-clause-long
+returns-clause-long c =
+    let run = product_run c.args.matrix.rows c.args.ranks c.args.matrix.entries c.args.vector.entries in
+    let n : ℕ = c.args.matrix.rows in
+    IfOk-weaker c.run_through.result (λ p. p.0 ≡ map (end_value run) (range_with_len 0 n)) (λ p. length p.0 ≡ c.args.size)
+    (λ p same. ap length same ∙ length-map-range_with_len (end_value run) 0 n ∙ c.requires.rows) c.run_through.ensures.values
 
 pub returns-clause-events : goal.returns-clause-events
 returns-clause-events c =
