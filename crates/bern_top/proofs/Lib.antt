@@ -5,3 +5,7 @@ pub mod EntriesLemmas
 pub mod ReadingLemmas
 pub mod AgreesLemmas
 pub mod TopLemmas
+pub mod NodesLemmas
+pub mod RunLemmas
+pub mod PartsLemmas
+pub mod ProductJobLemmas

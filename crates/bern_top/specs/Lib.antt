@@ -2,6 +2,8 @@ pub mod Answers
 pub mod FixedJob
 pub mod FixedMatrix
 pub mod Lines
+pub mod Product
+pub mod ProductJob
 pub mod Scan
 pub mod Walk
 pub mod Top

@@ -1,11 +1,15 @@
 //! The commands: words, files in their order, the run, and what is written to the two streams.
 #![tactic(auto)]
 
+mod events;
 mod fixed_job;
 mod fixed_matrix;
+mod job;
 mod lines;
 mod load_error;
+mod parts;
 mod product;
+mod ranks;
 mod reading;
 mod run;
 mod scan;
