@@ -105,3 +105,8 @@ pub record IsAmong (event : Event) (events : List Event) : Type 0 where
 pub record AreAtEnd (run : Run) (nodes : List Node) : Type 0 where
   pub done : (r : ℕ) (n : Node) → slice_get nodes r ≡ Some n → at_end (node_of run n).todo ≡ true
   pub parts : (r array : ℕ) (n : Node) → slice_get nodes r ≡ Some n → run.dense array ≡ true → values_held n array ≡ part_values run (end_state run) array r
+
+-- from a world of nodes on, whatever events are tried in whatever order
+abbrev pub EveryListIsFit : Type 0
+EveryListIsFit = (run : Run) (nodes : List Node) (boxes : List (List (List Letter))) → IsFit run nodes boxes → (events : List Event) →
+    Fit (scripts run) (worlds.run (scripts run) (world_in run nodes boxes) (map event_of events))

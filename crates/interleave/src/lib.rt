@@ -5,9 +5,11 @@
 
 mod boxes;
 mod event;
+mod laws;
 mod turns;
 mod world;
 
 pub use event::{Event, StepError};
+pub use laws::every_list_of_events_is_fit;
 pub use turns::replay;
 pub use world::World;

@@ -1,4 +1,4 @@
-ghost use Rattle.std.specs.Prelude.{◌≡◌, ◌<◌, ℕ, true, false, Some, length, slice_get, slice_index_or, [], ◌∷◌, ◌++◌, map, filter, IfOk, OnOk, OnErr, IsErrOf, ◌↔◌};
+ghost use Rattle.std.specs.Prelude.{◌≡◌, ◌<◌, ℕ, true, false, Some, length, slice_get, slice_index_or, [], ◌∷◌, ◌++◌, map, filter, IfOk, OnOk, OnErr, IsErrOf, IsTrue, ◌↔◌};
 ghost use Rattle.rank_scripts.specs.Acts.{at_work, at_post, at_end};
 ghost use Rattle.rank_scripts.specs.Nodes.{posted};
 ghost use Rattle.rank_scripts.specs.Worlds.{Works, Posts, Takes, can, happens, start, done};
@@ -6,7 +6,7 @@ ghost use Rattle.rank_model.specs.Runs.{Run, IsRun};
 ghost use Rattle.rank_model.specs.Letters.{scripts};
 ghost use Rattle.rank_node.specs.declared.node.Node.{Node};
 ghost use Rattle.rank_node.specs.NodeStates.{node_of};
-ghost use Rattle.interleave.specs.Worlds.{node_in, flight_in, world_in, event_of, is_work, is_post, is_end, events_of, enabled_events, IsRank, IsFit, IsStart, IsPosted};
+ghost use Rattle.interleave.specs.Worlds.{node_in, flight_in, world_in, event_of, is_work, is_post, is_end, events_of, enabled_events, IsRank, IsFit, IsStart, IsPosted, AreAtEnd};
 
 use crate::boxes::Boxes;
 use crate::event::{Event, StepError};
@@ -101,11 +101,12 @@ impl World {
         is_end(self.nodes.at(rank as usize).want())
     }
 
-    /// Whether every rank is done.
+    /// Whether every rank is done. Each then holds its part of the state at the end.
     pub fn done(&self) -> bool
         ghost run: { Run }
         requires { IsFit run self.now.nodes self.now.boxes }
-        ensures { result ≡ done (scripts run) (world_in run self.now.nodes self.now.boxes) }
+        ensures done { result ≡ done (scripts run) (world_in run self.now.nodes self.now.boxes) }
+        ensures end { IsTrue result → AreAtEnd run self.now.nodes }
     {
         let ranks = self.nodes.len() as u32;
         for rank in 0..ranks {

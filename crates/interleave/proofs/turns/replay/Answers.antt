@@ -1,6 +1,6 @@
 use Rattle.std.proofs.Common.{sym, ◌∙◌, arith}
 use Rattle.interleave.specs.Worlds.{world_in}
-use Rattle.interleave.proofs.EventLemmas.{start_left, done_left, total_small, all_at_end}
+use Rattle.interleave.proofs.EventLemmas.{start_left, done_left, total_small}
 use Rattle.interleave.proofs.turns.replay.Goals as goal
 
 pub turns-init : goal.turns-init
@@ -17,9 +17,9 @@ overflow_add-count g c =
 
 pub returns-clause-events : goal.returns-clause-events
 returns-clause-events g c =
-    let none = done_left g.run (world_in g.run c.turns.world.nodes c.turns.world.boxes) c.turns.invariant.fit.fit (sym c.done.ensures ∙ c.turns-test.false) in
+    let none = done_left g.run (world_in g.run c.turns.world.nodes c.turns.world.boxes) c.turns.invariant.fit.fit (sym c.done.ensures.done ∙ c.turns-test.false) in
     let counted = c.turns.invariant.counted in
     omega arith
 
 pub returns-clause-end : goal.returns-clause-end
-returns-clause-end g c = all_at_end g.run c.turns.world.nodes c.turns.world.boxes c.turns.invariant.fit (sym c.done.ensures ∙ c.turns-test.false)
+returns-clause-end g c = c.done.ensures.end c.turns-test.false
