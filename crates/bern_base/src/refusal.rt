@@ -43,7 +43,6 @@ pub enum Rule {
     F7,
     U1,
     U2,
-    U3,
 }
 
 /// What is refused, and by which rule. Lines count from 1; line 0 stands for the file as a whole.

@@ -1,13 +1,14 @@
 -- Answers of a run, from those of what it does next.
-use Rattle.std.proofs.Common.{◌≡◌, ℕ, ◌+◌, ◌-◌, ◌^◌, ◌<◌, ◌≤◌, ◌⊎◌, min, List, MatchOption, Some, None, Option, Ok, Err, Result, IfSome, sym, ap, ◌∙◌, subst, refl, inl, inr, arith}
-use Rattle.bern_base.specs.declared.matrix.Entry.{Entry}
+use Rattle.std.proofs.Common.{◌≡◌, ℕ, ◌≤◌, List, Bool, MatchOption, Some, None, Option, Ok, Err, Result, IfSome, IsTrue, sym, ap, ◌∙◌, subst, inl, inr, arith}
+use Rattle.bern_base.specs.declared.matrix.Matrix.{Matrix}
 use Rattle.bern_base.specs.declared.refusal.Refusal.{Refusal}
 use Rattle.bern_ports.specs.Causes.{Rose}
 use Rattle.bern_ports.specs.Files.{Files, bytes_of}
 use Rattle.bern_top.specs.declared.load_error.LoadError.{LoadError}
 use Rattle.bern_top.specs.declared.load_error.LoadError.TheVariants as e
-use Rattle.bern_top.specs.Answers.{EndsOnly, Agrees, BlamesOne, IsBlamed, RoseAtFault, HasFaultCause, IsFaultAt, IsRefusalOf, IsOnly}
-use Rattle.bern_top.specs.Walk.{Ending, Done, Refuses, Absent, Reads, Spells}
+use Rattle.bern_top.specs.Answers.{EndsOnly, Agrees, BlamesOne, IsBlamed, RoseAtFault, HasFaultCause, IsFaultAt, IsRefusalOf, IsOnly, IsAnswer, LoadsArray}
+use Rattle.bern_top.specs.Walk.{Ending, Done, Refuses, Absent, Reads, Spells, HasMatrix, array_ending}
+use Rattle.bern_top.proofs.LoadingLemmas.{array_is}
 use Rattle.bern_top.proofs.WritingLemmas.{rose_again}
 
 -- nothing is spelled: the refusal
@@ -61,6 +62,35 @@ fault_agrees run comes name (e.Refused r) there is = absurd is
 fault_agrees run comes name (e.ReadFault file) there is = subst comes (sym is) there
 fault_agrees run comes name e.NoMemory there is = tt
 
+-- an end that is known is the only one
+ends_so : (ending end : Ending) → ending ≡ end → EndsOnly (λ other. other ≡ ending) end
+ends_so ending end is = (sym is, λ other same. same ∙ is)
+
+pub answer_agrees : (ending : Ending) (comes : List ℕ → Type 0) (result : Result (List ℕ) LoadError) → IsAnswer ending comes result → Agrees (λ other. other ≡ ending) comes result
+answer_agrees ending comes (Ok text) is = ends_so ending (Done text) is
+answer_agrees ending comes (Err (e.Refused r)) is = ends_so ending (Refuses r) is
+answer_agrees ending comes (Err (e.ReadFault file)) is = is
+answer_agrees ending comes (Err e.NoMemory) is = tt
+
+-- the same with another name for the end, and where more names are come to
+pub answer_so : (ending end : Ending) (comes more : List ℕ → Type 0) (result : Result (List ℕ) LoadError) → ending ≡ end → ((n : List ℕ) → comes n → more n) → IsAnswer end comes result → IsAnswer ending more result
+answer_so ending end comes more (Ok text) same wider is = same ∙ is
+answer_so ending end comes more (Err (e.Refused r)) same wider is = same ∙ is
+answer_so ending end comes more (Err (e.ReadFault file)) same wider is = wider file is
+answer_so ending end comes more (Err e.NoMemory) same wider is = tt
+
+-- an array whose matrix was loaded, and one that was not
+pub array_answer : (files : Files) (name : List ℕ) (rows cols : ℕ) (m : Matrix) (next : Matrix → Ending) (comes more : List ℕ → Type 0) (result : Result (List ℕ) LoadError) →
+    HasMatrix files name rows cols m → ((n : List ℕ) → comes n → more n) → IsAnswer (next m) comes result → IsAnswer (array_ending files name rows cols next) more result
+array_answer files name rows cols m next comes more result has wider is =
+    answer_so (array_ending files name rows cols next) (next m) comes more result (array_is files name rows cols m next has) wider is
+
+pub fault_answer : (files : Files) (name : List ℕ) (rows cols : ℕ) (next : Matrix → Ending) (comes : List ℕ → Type 0) (fault : LoadError) →
+    comes name → LoadsArray files name rows cols (Err fault) → IsAnswer (array_ending files name rows cols next) comes (Err fault)
+fault_answer files name rows cols next comes (e.Refused r) there loads = loads next
+fault_answer files name rows cols next comes (e.ReadFault file) there loads = subst comes (sym loads) there
+fault_answer files name rows cols next comes e.NoMemory there loads = tt
+
 -- counts over two calls
 rose_before : {T : Type 0} (k m n : ℕ) (result : Result T LoadError) → k ≤ m → RoseAtFault m n result → RoseAtFault k n result
 rose_before k m n (Ok x) up rose = rose
@@ -83,12 +113,14 @@ told_both told now P Q R same both first second = with_both told P Q R both firs
     with_both (Some x) P Q R both first second = both x first second
 
 -- counts by name over two calls, where the first leaves all
-is_blamed_before : (fs : Files) (k m n : List ℕ → ℕ) (file : List ℕ) → ((x : List ℕ) → m x ≡ k x) → IsBlamed fs m n file → IsBlamed fs k n file
-is_blamed_before fs k m n file same blamed =
-    (λ there. subst (λ c. Rose c (n file)) (same file) (blamed.0 there), λ x other. blamed.1 x other ∙ same x)
+is_blamed_before : (fs : Files) (sure before : Bool) (k m n : List ℕ → ℕ) (file : List ℕ) → sure ≡ before → ((x : List ℕ) → m x ≡ k x) → IsBlamed fs sure m n file → IsBlamed fs before k n file
+is_blamed_before fs sure before k m n file same_sure same blamed = (
+  λ there. (subst (λ c. Rose c (n file)) (same file) (blamed.0 there).0, subst (λ s. IsTrue s → ⊥) same_sure (blamed.0 there).1),
+  λ x other. blamed.1 x other ∙ same x,
+)
 
-pub blames_before : {T : Type 0} (fs : Files) (k m n : List ℕ → ℕ) (result : Result T LoadError) → ((x : List ℕ) → m x ≡ k x) → BlamesOne m n result fs → BlamesOne k n result fs
-blames_before fs k m n (Ok x) same blames = λ y. blames y ∙ same y
-blames_before fs k m n (Err (e.Refused r)) same blames = λ y. blames y ∙ same y
-blames_before fs k m n (Err (e.ReadFault file)) same blames = is_blamed_before fs k m n file same blames
-blames_before fs k m n (Err e.NoMemory) same blames = tt
+pub blames_before : {T : Type 0} (fs : Files) (sure before : Bool) (k m n : List ℕ → ℕ) (result : Result T LoadError) → sure ≡ before → ((x : List ℕ) → m x ≡ k x) → BlamesOne sure m n result fs → BlamesOne before k n result fs
+blames_before fs sure before k m n (Ok x) same_sure same blames = λ y. blames y ∙ same y
+blames_before fs sure before k m n (Err (e.Refused r)) same_sure same blames = λ y. blames y ∙ same y
+blames_before fs sure before k m n (Err (e.ReadFault file)) same_sure same blames = is_blamed_before fs sure before k m n file same_sure same blames
+blames_before fs sure before k m n (Err e.NoMemory) same_sure same blames = tt

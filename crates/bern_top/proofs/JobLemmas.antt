@@ -1,8 +1,7 @@
 -- File names lack line feeds, and jobs by their fields.
-use Rattle.std.proofs.Common.{◌≡◌, ℕ, ◌<◌, ◌≤◌, Bool, true, false, ◌&&◌, not, ◌==◌, nat_le, List, length, get_or, Some, None, Option, IfSome, sym, ap, ◌∙◌, subst, refl, ◌^◌, arith, decimal}
+use Rattle.std.proofs.Common.{◌≡◌, ℕ, ◌<◌, ◌≤◌, Bool, true, false, ◌&&◌, nat_le, List, length, get_or, Some, None, Option, IfSome, sym, ap, ◌∙◌, ◌^◌, arith, decimal}
 use Rattle.std.proofs.lemmas.Bool.{true≢false}
 use Rattle.std.proofs.lemmas.List.Sums.{AllPass-from_list_all}
-use Rattle.std.proofs.lemmas.Grind.{get_or_default_zero}
 use Rattle.std.specs.List.{list_all}
 use Rattle.bern_top.specs.FixedJob.{ProductJob, is_file_byte, is_file_name, text_of_fields, AreFields, IsFixedJob}
 use Rattle.bern_top.specs.Scan.{Lacks}

@@ -1,9 +1,10 @@
 pub mod WritingLemmas
 pub mod ScanLemmas
 pub mod JobLemmas
-pub mod EntriesLemmas
 pub mod ReadingLemmas
+pub mod LoadingLemmas
 pub mod AgreesLemmas
+pub mod CommandLemmas
 pub mod TopLemmas
 pub mod NodesLemmas
 pub mod RunLemmas

@@ -1,12 +1,11 @@
 -- Reading a file piece by piece, against its whole.
-use Rattle.std.proofs.Common.{◌≡◌, ℕ, ◌+◌, ◌<◌, ◌≤◌, List, [], ◌++◌, length, take, Some, None, Option, IsSome, Result, Ok, Err, sym, ap, ◌∙◌, subst, refl, append_assoc, append-nil, length-append, arith}
+use Rattle.std.proofs.Common.{◌≡◌, ℕ, ◌+◌, ◌<◌, List, [], ◌++◌, length, Some, None, Option, IsSome, Result, Ok, Err, sym, ap, ◌∙◌, subst, refl, append_assoc, append-nil, length-append, arith}
 use Rattle.std.proofs.lemmas.Bool.{false≢true}
 use Rattle.std.specs.Io.KnownBytes.{Consumes, IsAtEnd, ReadConsumes}
 use Rattle.std.specs.Io.{ReadsAtMost}
 use Rattle.std.proofs.lemmas.List.{take-append-le}
 use Rattle.bern_ports.specs.Files.{Files, bytes_of, StandsAtStart}
 use Rattle.bern_top.specs.Answers.{Stands}
-use Rattle.bern_top.proofs.ScanLemmas.{same_inside}
 
 goes_on : (files : Files) (name bytes back given : List ℕ) (new : Option (List ℕ)) → bytes_of files name ≡ Some (bytes ++ back) → Consumes (Some back) new given → Stands files name (bytes ++ given) new
 goes_on files name bytes back given None whole consumed = absurd consumed

@@ -1,5 +1,5 @@
 -- Texts that are split at the first byte of a kind, and the spelling of numbers.
-use Rattle.std.proofs.Common.{◌≡◌, ◌≢◌, ℕ, ◌+◌, ◌<◌, ◌≤◌, Bool, true, false, ◌&&◌, nat_le, List, [], ◌∷◌, ◌++◌, length, take, drop, get_or, Some, None, Option, sym, ap, ◌∙◌, subst, refl, arith, cond, ltb, length-append, suc, add-one, decimal, ◌^◌}
+use Rattle.std.proofs.Common.{◌≡◌, ℕ, ◌+◌, ◌<◌, true, false, ◌&&◌, nat_le, List, ◌∷◌, ◌++◌, length, take, drop, get_or, Some, None, Option, sym, ap, ◌∙◌, subst, refl, arith, cond, ltb, length-append, suc, add-one, decimal, ◌^◌}
 use Rattle.std.proofs.Math.Seq.{take-append_seam, drop-append-add, drop-cons, get_or-append_seam}
 use Rattle.std.proofs.lemmas.List.{get_or_append_left, take-append-drop}
 use Rattle.std.proofs.lemmas.List.Sums.{position_or_len_is}

@@ -1,23 +1,21 @@
 -- What the top call says, from the answer of the run and what was written.
-use Rattle.std.proofs.Common.{◌≡◌, ℕ, ◌⊎◌, List, [], ◌∷◌, length, get_or, suc, zero, codes, Option, Some, None, Err, IfSome, sym, ap, ◌∙◌, subst, refl, inl, inr, arith}
-use Rattle.std.specs.Io.KnownBytes.{Keeps}
+use Rattle.std.proofs.Common.{◌≡◌, ◌≢◌, IsSome, IsTrue, ℕ, List, Option, Some, None, Err, IfSome, sym, ap, subst, inl, inr, arith}
+use Rattle.std.specs.Io.KnownBytes.{Appends, Keeps}
 use Rattle.std.proofs.KnownBytes.{Keeps-refl}
+use Rattle.std.proofs.lemmas.Bool.{false≢true}
 use Rattle.bern_base.specs.declared.refusal.Refusal.{Refusal}
 use Rattle.bern_ports.specs.Causes.{Rose}
-use Rattle.bern_ports.specs.Files.{Files}
+use Rattle.bern_ports.specs.Files.{Files, bytes_of}
 use Rattle.bern_top.specs.declared.load_error.LoadError.{LoadError}
 use Rattle.bern_top.specs.declared.load_error.LoadError.TheVariants as e
-use Rattle.bern_top.specs.Answers.{Port, EndsOnly, Agrees, BlamesOne, IsBlamed, RoseAtFault, HasLine}
-use Rattle.bern_top.specs.Lines.{refusal_line}
-use Rattle.bern_top.specs.Top.{Faults, IsNoRun, IsDue, IsRefused, IsVisited, IsFaultOf, IsCalm, Says, TellsFault}
-use Rattle.bern_top.specs.Walk.{Ending, Done, Refuses, Absent, IsRun, Runs, Comes}
+use Rattle.bern_top.specs.Answers.{Port, EndsOnly, Agrees, BlamesOne, IsBlamed, RoseAtFault, HasLine, StopsWithin}
+use Rattle.bern_top.specs.Lines.{refusal_line, write_fault_line}
+use Rattle.bern_top.specs.Top.{SaysReadFault, SaysWriteFault, Faults, IsDue, IsRefused, IsVisited, IsFaultOf, IsCalm, Says, TellsFault, PrintsText}
+use Rattle.bern_top.specs.Walk.{Ending, Done, Refuses, Absent, Runs, Comes}
+use Rattle.bern_top.specs.Commands.{Command, IsCommand}
+use Rattle.bern_top.proofs.CommandLemmas.{same_command}
 use Rattle.bern_top.proofs.WritingLemmas.{port}
 use Rattle.bern_top.proofs.JobLemmas.{if_some_weaker}
-
-same_job : (words : List (List ℕ)) (a b : List ℕ) → IsRun words a → IsRun words b → a ≡ b
-same_job words a b first second =
-    let same : codes "run" ∷ a ∷ codes "1" ∷ [] ≡ codes "run" ∷ b ∷ codes "1" ∷ [] = sym first ∙ second in
-    ap (λ (ws : List (List ℕ)). get_or ws 1 []) same
 
 refusal_in : Refusal → Ending → Refusal
 refusal_in default (Done text) = default
@@ -32,14 +30,14 @@ done_refused : (text : List ℕ) (r : Refusal) → Done text ≡ Refuses r → �
 done_refused text r same = cc
 
 -- the run ends in a refusal, so no text is due
-not_due : (files : Files) (words : List (List ℕ)) (job : List ℕ) (r : Refusal) → IsRun words job → EndsOnly (Runs files job) (Refuses r) → (text : List ℕ) → IsDue files words text → ⊥
-not_due files words job r run ends text due =
-    done_refused text r (ends.1 (Done text) (subst (λ j. Runs files j (Done text)) (same_job words due.0 job due.1 run) due.2))
+not_due : (files : Files) (words : List (List ℕ)) (c : Command) (r : Refusal) → IsCommand words c → EndsOnly (Runs files c) (Refuses r) → (text : List ℕ) → IsDue files words text → ⊥
+not_due files words c r run ends text due =
+    done_refused text r (ends.1 (Done text) (subst (λ d. Runs files d (Done text)) (same_command words due.0 c due.1 run) due.2))
 
-only_refusal : (files : Files) (words : List (List ℕ)) (job : List ℕ) (r : Refusal) → IsRun words job → EndsOnly (Runs files job) (Refuses r) → (other : Refusal) → IsRefused files words other → other ≡ r
-only_refusal files words job r run ends other (inl none) = absurd (none.0 job run)
-only_refusal files words job r run ends other (inr refused) =
-    refused_same other r (ends.1 (Refuses other) (subst (λ j. Runs files j (Refuses other)) (same_job words refused.0 job refused.1 run) refused.2))
+only_refusal : (files : Files) (words : List (List ℕ)) (c : Command) (r : Refusal) → IsCommand words c → EndsOnly (Runs files c) (Refuses r) → (other : Refusal) → IsRefused files words other → other ≡ r
+only_refusal files words c r run ends other (inl none) = absurd (none.0 c run)
+only_refusal files words c r run ends other (inr refused) =
+    refused_same other r (ends.1 (Refuses other) (subst (λ d. Runs files d (Refuses other)) (same_command words refused.0 c refused.1 run) refused.2))
 
 -- what holds of all files
 pub for_all : {X : Type 0} (o : Option X) (P : X → Type 0) → ((x : X) → P x) → IfSome o P
@@ -50,49 +48,49 @@ if_some_both : {X : Type 0} (o : Option X) (P Q : X → Type 0) → IfSome o P �
 if_some_both None P Q first second = tt
 if_some_both (Some x) P Q first second = (first, second)
 
-says_refused : (files : Option Files) (words : List (List ℕ)) (job : List ℕ) (before now : Faults) (held : Option (List ℕ)) (count : ℕ) (err : Port) (status : ℕ) (r : Refusal) → IsRun words job
-    → IfSome files (λ fs. EndsOnly (Runs fs job) (Refuses r)) → status ≡ 2 → HasLine err (refusal_line r) → Says files words before now (port held held count count) err status
-says_refused files words job before now held count err status r run told is line = record {
+says_refused : (files : Option Files) (words : List (List ℕ)) (c : Command) (before now : Faults) (held : Option (List ℕ)) (count : ℕ) (err : Port) (status : ℕ) (r : Refusal) → IsCommand words c
+    → IfSome files (λ fs. EndsOnly (Runs fs c) (Refuses r)) → status ≡ 2 → HasLine err (refusal_line r) → Says files words before now (port held held count count) err status
+says_refused files words c before now held count err status r run told is line = record {
   known = inr (inl is);
   done = λ other. absurd (omega (arith, is, other));
-  refused = λ _. (Keeps-refl held, (r, if_some_weaker files (λ fs. EndsOnly (Runs fs job) (Refuses r)) (λ fs. IsRefused fs words r) (λ fs ends. inr (job, run, ends.0)) told, line));
-  words_refused = λ none. absurd (none job run);
+  refused = λ _. (Keeps-refl held, (r, if_some_weaker files (λ fs. EndsOnly (Runs fs c) (Refuses r)) (λ fs. IsRefused fs words r) (λ fs ends. inr (c, run, ends.0)) told, line));
+  words_refused = λ none. absurd (none c run);
   read_fault = λ other. absurd (omega (arith, is, other));
   write_fault = λ other. absurd (omega (arith, is, other));
   memory = λ other. absurd (omega (arith, is, other));
-  due = if_some_weaker files (λ fs. EndsOnly (Runs fs job) (Refuses r)) _ (λ fs ends text due calm dry. absurd (not_due fs words job r run ends text due)) told;
-  refusal = if_some_weaker files (λ fs. EndsOnly (Runs fs job) (Refuses r)) _
-      (λ fs ends other refused calm. inl (is, subst (λ t. HasLine err (refusal_line t)) (sym (only_refusal fs words job r run ends other refused)) line)) told;
+  due = if_some_weaker files (λ fs. EndsOnly (Runs fs c) (Refuses r)) _ (λ fs ends text due calm dry. absurd (not_due fs words c r run ends text due)) told;
+  refusal = if_some_weaker files (λ fs. EndsOnly (Runs fs c) (Refuses r)) _
+      (λ fs ends other refused calm. inl (is, subst (λ t. HasLine err (refusal_line t)) (sym (only_refusal fs words c r run ends other refused)) line)) told;
 }
 
 -- a fault with its cause, so the shelf is not calm
 not_calm : (files : Files) (words : List (List ℕ)) (before now : Faults) (name : List ℕ) → IsFaultOf files words before now name → Rose before.total now.total → IsCalm files words before now → ⊥
 not_calm files words before now name fault rose (inl none) = none rose
-not_calm files words before now name fault rose (inr calm) = let still = calm name fault.0 in still.1 (fault.1.0 still.0)
+not_calm files words before now name fault rose (inr calm) = let still = calm name fault.0 in still.1 (fault.1.0 still.0).0
 
-says_read_fault : (files : Option Files) (words : List (List ℕ)) (job : List ℕ) (before now : Faults) (held : Option (List ℕ)) (count : ℕ) (err : Port) (status : ℕ) (name : List ℕ) → IsRun words job
-    → IfSome files (λ fs. Comes fs job name × IsBlamed fs before.by_name now.by_name name) → Rose before.total now.total → TellsFault err (e.ReadFault name) status → Says files words before now (port held held count count) err status
-says_read_fault files words job before now held count err status name run told rose tells = record {
+says_read_fault : (files : Option Files) (words : List (List ℕ)) (c : Command) (before now : Faults) (held : Option (List ℕ)) (count : ℕ) (err : Port) (status : ℕ) (name : List ℕ) → IsCommand words c
+    → IfSome files (λ fs. Comes fs c.job name × IsBlamed fs before.sure before.by_name now.by_name name) → Rose before.total now.total → TellsFault err (e.ReadFault name) status → Says files words before now (port held held count count) err status
+says_read_fault files words c before now held count err status name run told rose tells = record {
   known = inr (inr (inl tells.0));
   done = λ other. absurd (omega (arith, tells.0, other));
   refused = λ other. absurd (omega (arith, tells.0, other));
-  words_refused = λ none. absurd (none job run);
-  read_fault = λ _. (rose, Keeps-refl held, (name, if_some_weaker files (λ fs. Comes fs job name × IsBlamed fs before.by_name now.by_name name) (λ fs. IsFaultOf fs words before now name) (λ fs fault. ((job, run, fault.0), fault.1)) told, tells.1));
+  words_refused = λ none. absurd (none c run);
+  read_fault = λ _. (rose, Keeps-refl held, (name, if_some_weaker files (λ fs. Comes fs c.job name × IsBlamed fs before.sure before.by_name now.by_name name) (λ fs. IsFaultOf fs words before now name) (λ fs fault. ((c, run, fault.0), fault.1)) told, tells.1));
   write_fault = λ other. absurd (omega (arith, tells.0, other));
   memory = λ other. absurd (omega (arith, tells.0, other));
-  due = if_some_weaker files (λ fs. Comes fs job name × IsBlamed fs before.by_name now.by_name name) _
-      (λ fs fault text due calm dry. absurd (not_calm fs words before now name ((job, run, fault.0), fault.1) rose calm)) told;
-  refusal = if_some_weaker files (λ fs. Comes fs job name × IsBlamed fs before.by_name now.by_name name) _
-      (λ fs fault r refused calm. absurd (not_calm fs words before now name ((job, run, fault.0), fault.1) rose calm)) told;
+  due = if_some_weaker files (λ fs. Comes fs c.job name × IsBlamed fs before.sure before.by_name now.by_name name) _
+      (λ fs fault text due calm dry. absurd (not_calm fs words before now name ((c, run, fault.0), fault.1) rose calm)) told;
+  refusal = if_some_weaker files (λ fs. Comes fs c.job name × IsBlamed fs before.sure before.by_name now.by_name name) _
+      (λ fs fault r refused calm. absurd (not_calm fs words before now name ((c, run, fault.0), fault.1) rose calm)) told;
 }
 
-says_memory : (files : Option Files) (words : List (List ℕ)) (job : List ℕ) (before now : Faults) (held : Option (List ℕ)) (count : ℕ) (err : Port) (status : ℕ) → IsRun words job
+says_memory : (files : Option Files) (words : List (List ℕ)) (c : Command) (before now : Faults) (held : Option (List ℕ)) (count : ℕ) (err : Port) (status : ℕ) → IsCommand words c
     → TellsFault err e.NoMemory status → Says files words before now (port held held count count) err status
-says_memory files words job before now held count err status run tells = record {
+says_memory files words c before now held count err status run tells = record {
   known = inr (inr (inr (inr tells.0)));
   done = λ other. absurd (omega (arith, tells.0, other));
   refused = λ other. absurd (omega (arith, tells.0, other));
-  words_refused = λ none. absurd (none job run);
+  words_refused = λ none. absurd (none c run);
   read_fault = λ other. absurd (omega (arith, tells.0, other));
   write_fault = λ other. absurd (omega (arith, tells.0, other));
   memory = λ _. (Keeps-refl held, tells.1);
@@ -100,17 +98,60 @@ says_memory files words job before now held count err status run tells = record 
   refusal = for_all files _ (λ fs r refused calm. inr tells.0);
 }
 
-pub says_fault : (files : Option Files) (words : List (List ℕ)) (job : List ℕ) (before now : Faults) (held : Option (List ℕ)) (count : ℕ) (err : Port) (status : ℕ) (fault : LoadError) → IsRun words job
-    → IfSome files (λ fs. Agrees (Runs fs job) (Comes fs job) (Err fault)) → IfSome files (BlamesOne {T = List ℕ} before.by_name now.by_name (Err fault)) → RoseAtFault {T = List ℕ} before.total now.total (Err fault) → TellsFault err fault status → Says files words before now (port held held count count) err status
-says_fault files words job before now held count err status (e.Refused r) run told blame rose tells = says_refused files words job before now held count err status r run told tells.0 tells.1
-says_fault files words job before now held count err status (e.ReadFault name) run told blame rose tells = says_read_fault files words job before now held count err status name run (if_some_both files (λ fs. Comes fs job name) (λ fs. IsBlamed fs before.by_name now.by_name name) told blame) rose tells
-says_fault files words job before now held count err status e.NoMemory run told blame rose tells = says_memory files words job before now held count err status run tells
+pub says_fault : (files : Option Files) (words : List (List ℕ)) (c : Command) (before now : Faults) (held : Option (List ℕ)) (count : ℕ) (err : Port) (status : ℕ) (fault : LoadError) → IsCommand words c
+    → IfSome files (λ fs. Agrees (Runs fs c) (Comes fs c.job) (Err fault)) → IfSome files (BlamesOne {T = List ℕ} before.sure before.by_name now.by_name (Err fault)) → RoseAtFault {T = List ℕ} before.total now.total (Err fault) → TellsFault err fault status → Says files words before now (port held held count count) err status
+says_fault files words c before now held count err status (e.Refused r) run told blame rose tells = says_refused files words c before now held count err status r run told tells.0 tells.1
+says_fault files words c before now held count err status (e.ReadFault name) run told blame rose tells = says_read_fault files words c before now held count err status name run (if_some_both files (λ fs. Comes fs c.job name) (λ fs. IsBlamed fs before.sure before.by_name now.by_name name) told blame) rose tells
+says_fault files words c before now held count err status e.NoMemory run told blame rose tells = says_memory files words c before now held count err status run tells
 
--- three words and no more
-pub three : {X : Type 0} (ws : List X) (a b c : X) → length ws ≡ 3 → a ≡ get_or ws 0 a → b ≡ get_or ws 1 b → c ≡ get_or ws 2 c → ws ≡ a ∷ b ∷ c ∷ []
-three [] a b c size first second third = absurd (omega (arith, size))
-three (x ∷ []) a b c size first second third = absurd (omega (arith, size))
-three (x ∷ y ∷ []) a b c size first second third = absurd (omega (arith, size))
-three (x ∷ y ∷ z ∷ []) a b c size first second third =
-    ap (λ t. t ∷ y ∷ z ∷ []) (sym first) ∙ ap (λ t. a ∷ t ∷ z ∷ []) (sym second) ∙ ap (λ t. a ∷ b ∷ t ∷ []) (sym third)
-three (x ∷ y ∷ z ∷ w ∷ ws) a b c size first second third = absurd (omega (arith, size))
+-- the run ends with a text, so nothing is refused
+not_refused : (files : Files) (words : List (List ℕ)) (c : Command) (text : List ℕ) → IsCommand words c → EndsOnly (Runs files c) (Done text) → (r : Refusal) → IsRefused files words r → ⊥
+not_refused files words c text run ends r (inl none) = none.0 c run
+not_refused files words c text run ends r (inr refused) =
+    done_refused text r (sym (ends.1 (Refuses r) (subst (λ d. Runs files d (Refuses r)) (same_command words refused.0 c refused.1 run) refused.2)))
+
+says_printed : (files : Option Files) (words : List (List ℕ)) (c : Command) (before now : Faults) (out err : Port) (status : ℕ) (text : List ℕ) → IsCommand words c
+    → IfSome files (λ fs. EndsOnly (Runs fs c) (Done text)) → status ≡ 0 → Appends out.old out.new text → Keeps err.old err.new → Says files words before now out err status
+says_printed files words c before now out err status text run told is wrote kept = record {
+  known = inl is;
+  done = λ _. (if_some_weaker files (λ fs. EndsOnly (Runs fs c) (Done text)) (λ fs. (t : List ℕ) × IsDue fs words t × Appends out.old out.new t) (λ fs ends. (text, (c, run, ends.0), wrote)) told, kept);
+  refused = λ other. absurd (omega (arith, is, other));
+  words_refused = λ none. absurd (none c run);
+  read_fault = λ other. absurd (omega (arith, is, other));
+  write_fault = λ other. absurd (omega (arith, is, other));
+  memory = λ other. absurd (omega (arith, is, other));
+  due = for_all files _ (λ fs t due calm dry. inl is);
+  refusal = if_some_weaker files (λ fs. EndsOnly (Runs fs c) (Done text)) _ (λ fs ends r refused calm. absurd (not_refused fs words c text run ends r refused)) told;
+}
+
+says_stopped : (files : Option Files) (words : List (List ℕ)) (c : Command) (before now : Faults) (out err : Port) (status : ℕ) (text : List ℕ) → IsCommand words c
+    → IfSome files (λ fs. EndsOnly (Runs fs c) (Done text)) → status ≡ 4 → StopsWithin out text → HasLine err write_fault_line → Says files words before now out err status
+says_stopped files words c before now out err status text run told is stops line = record {
+  known = inr (inr (inr (inl is)));
+  done = λ other. absurd (omega (arith, is, other));
+  refused = λ other. absurd (omega (arith, is, other));
+  words_refused = λ none. absurd (none c run);
+  read_fault = λ other. absurd (omega (arith, is, other));
+  write_fault = λ _. (stops.rose, if_some_weaker files (λ fs. EndsOnly (Runs fs c) (Done text)) (λ fs. (t : List ℕ) × IsDue fs words t × StopsWithin out t) (λ fs ends. (text, (c, run, ends.0), stops)) told, line);
+  memory = λ other. absurd (omega (arith, is, other));
+  due = for_all files _ (λ fs t due calm dry. absurd (dry stops.rose));
+  refusal = if_some_weaker files (λ fs. EndsOnly (Runs fs c) (Done text)) _ (λ fs ends r refused calm. absurd (not_refused fs words c text run ends r refused)) told;
+}
+
+pub says_text : (files : Option Files) (words : List (List ℕ)) (c : Command) (before now : Faults) (out err : Port) (status : ℕ) (text : List ℕ) → IsCommand words c
+    → IfSome files (λ fs. EndsOnly (Runs fs c) (Done text)) → PrintsText out err text status → Says files words before now out err status
+says_text files words c before now out err status text run told (inl printed) = says_printed files words c before now out err status text run told printed.0 printed.1 printed.2
+says_text files words c before now out err status text run told (inr stopped) = says_stopped files words c before now out err status text run told stopped.0 stopped.1 stopped.2
+
+-- over a sure shelf that has each file that is come to no read fault is told
+pub no_read_fault : (files : Option Files) (words : List (List ℕ)) (before now : Faults) (out err : Port) (status : ℕ) → IsSome files → IsTrue before.sure
+    → IfSome files (λ fs. (name : List ℕ) → IsVisited fs words name → IsSome (bytes_of fs name)) → SaysReadFault files words before now out err status → status ≢ 3
+no_read_fault None words before now out err status told sure there says three = absurd (false≢true told)
+no_read_fault (Some fs) words before now out err status told sure there says three =
+    let fault = (says three).2.1 in
+    let name : List ℕ = (says three).2.0 in
+    (fault.1.0 (there name fault.0)).1 sure
+
+-- over a sink whose count does not rise no write fault is told
+pub no_write_fault : (files : Option Files) (words : List (List ℕ)) (out err : Port) (status : ℕ) → (Rose out.before out.now → ⊥) → SaysWriteFault files words out err status → status ≢ 4
+no_write_fault files words out err status dry says four = dry (says four).0

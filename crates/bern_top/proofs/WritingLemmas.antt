@@ -1,5 +1,5 @@
 -- Sinks over several calls.
-use Rattle.std.proofs.Common.{◌≡◌, ◌≢◌, ℕ, ◌+◌, ◌-◌, ◌^◌, ◌≤◌, List, [], ◌∷◌, ◌++◌, refl, Option, min, Ok, Err, Result, sym, ap, ◌∙◌, append_assoc, arith, subst, take, drop, length}
+use Rattle.std.proofs.Common.{◌≡◌, ◌≢◌, ℕ, ◌≤◌, List, [], ◌∷◌, ◌++◌, refl, Option, Ok, Err, Result, sym, ap, ◌∙◌, append_assoc, arith, subst, take, drop, length}
 use Rattle.std.proofs.lemmas.List.{take-take, take-append-drop, length-take}
 use Rattle.std.specs.Io.KnownBytes.{Appends, Keeps}
 use Rattle.std.proofs.KnownBytes.{Appends-trans, Appends-kept}

@@ -1,6 +1,7 @@
 pub mod Answers
+pub mod Asked
+pub mod Commands
 pub mod FixedJob
-pub mod FixedMatrix
 pub mod Lines
 pub mod Product
 pub mod ProductJob

@@ -46,7 +46,6 @@ rule_name r.F6 = codes "F6"
 rule_name r.F7 = codes "F7"
 rule_name r.U1 = codes "U1"
 rule_name r.U2 = codes "U2"
-rule_name r.U3 = codes "U3"
 
 -- the line in its file, and the rule
 abbrev pub place_text : ℕ → Rule → List ℕ

@@ -1,5 +1,5 @@
 -- What the top call says of its status, of what was written, and of the faults.
-use Rattle.std.specs.Prelude.{◌≡◌, ℕ, ◌⊎◌, List, Option, IsSome, IfSome}
+use Rattle.std.specs.Prelude.{◌≡◌, ℕ, ◌⊎◌, Bool, List, Option, IsSome, IfSome}
 use Rattle.std.specs.Io.KnownBytes.{Appends, Keeps}
 use Rattle.bern_base.specs.declared.refusal.Rule.TheVariants.{U1}
 use Rattle.bern_base.specs.declared.refusal.Refusal.{Refusal}
@@ -10,34 +10,34 @@ use Rattle.bern_top.specs.declared.load_error.LoadError.{LoadError}
 use Rattle.bern_top.specs.declared.load_error.LoadError.TheVariants as e
 use Rattle.bern_top.specs.Answers.{IsBlamed, Port, StopsWithin, HasLine}
 use Rattle.bern_top.specs.Lines.{refusal_line, read_fault_line, write_fault_line, memory_line}
-use Rattle.bern_top.specs.Walk.{Done, Refuses, IsRun, Runs, Comes}
-
--- no job's run is asked for by these words
-abbrev pub IsNoRun : List (List ℕ) → Type 0
-IsNoRun words = (job : List ℕ) → IsRun words job → ⊥
+use Rattle.bern_top.specs.Asked.{IsNoCommand}
+use Rattle.bern_top.specs.Commands.{Command, IsCommand}
+use Rattle.bern_top.specs.Walk.{Done, Refuses, Runs, Comes}
 
 -- the text that is due for these words
 abbrev pub IsDue : Files → List (List ℕ) → List ℕ → Type 0
-IsDue files words text = (job : List ℕ) × IsRun words job × Runs files job (Done text)
+IsDue files words text = (c : Command) × IsCommand words c × Runs files c (Done text)
 
 -- the first refusal of these words
 abbrev pub IsRefused : Files → List (List ℕ) → Refusal → Type 0
-IsRefused files words refusal = (IsNoRun words × (refusal ≡ Words U1)) ⊎ ((job : List ℕ) × IsRun words job × Runs files job (Refuses refusal))
+IsRefused files words refusal = (IsNoCommand words × (refusal ≡ Words U1)) ⊎ ((c : Command) × IsCommand words c × Runs files c (Refuses refusal))
 
--- the counts of a shelf's faults: of all calls, and of those on each name
+-- the counts of a shelf's faults, of all calls and of those on each name, and whether it is sure
 pub record Faults : Type 0 where
   pub total : ℕ
   pub by_name : List ℕ → ℕ
+  pub sure : Bool
 
--- a name that the run comes to
+-- a name that the command comes to
 abbrev pub IsVisited : Files → List (List ℕ) → List ℕ → Type 0
-IsVisited files words name = (job : List ℕ) × IsRun words job × Comes files job name
+IsVisited files words name = (c : Command) × IsCommand words c × Comes files c.job name
 
--- a fault at this name has its cause: the run comes to it, it is not there or its count rose, and no other name's count changed
+-- a fault at this name has its cause: the command comes to it, it is not there, or its count rose and the shelf is not sure, and no other
+-- name's count changed
 abbrev pub IsFaultOf : Files → List (List ℕ) → Faults → Faults → List ℕ → Type 0
-IsFaultOf files words before now name = IsVisited files words name × IsBlamed files before.by_name now.by_name name
+IsFaultOf files words before now name = IsVisited files words name × IsBlamed files before.sure before.by_name now.by_name name
 
--- no call failed, or each file that the run comes to is there and its count did not rise
+-- no call failed, or each file that the command comes to is there and its count did not rise
 abbrev pub IsCalm : Files → List (List ℕ) → Faults → Faults → Type 0
 IsCalm files words before now =
     (Rose before.total now.total → ⊥) ⊎ ((name : List ℕ) → IsVisited files words name → IsSome (bytes_of files name) × (Rose (before.by_name name) (now.by_name name) → ⊥))
@@ -56,7 +56,7 @@ SaysRefused files words out err status =
 
 -- refused words are refused, whatever fails
 abbrev pub SaysWords : List (List ℕ) → Port → Port → ℕ → Type 0
-SaysWords words out err status = IsNoRun words → (status ≡ 2) × Keeps out.old out.new × HasLine err (refusal_line (Words U1))
+SaysWords words out err status = IsNoCommand words → (status ≡ 2) × Keeps out.old out.new × HasLine err (refusal_line (Words U1))
 
 -- 3 comes only where the shelf's count rose, with a name at which the fault has its cause, and nothing on out
 abbrev pub SaysReadFault : Option Files → List (List ℕ) → Faults → Faults → Port → Port → ℕ → Type 0

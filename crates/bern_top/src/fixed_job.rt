@@ -4,7 +4,7 @@ ghost use Rattle.std.specs.Option.{option_map};
 ghost use Rattle.bern_top.specs.FixedJob.{ProductJob, is_file_byte, is_file_name, behind_vector, vector_text, files_text, text_of_fields, three_now, job_of, AreFields, IsFixedJob};
 ghost use Rattle.bern_top.specs.Scan.{Lacks, slice_now, both_now};
 
-use crate::scan::{field, numeral};
+use crate::scan::{field, numeral_to};
 
 const BEFORE_SIZE: &[u8] = b"extent n ";
 
@@ -16,7 +16,7 @@ const BEFORE_VECTOR: &[u8] = b"array X n vec row by p from ";
 const BEHIND_VECTOR: &[u8] =
     b"array Y n vec row by p zero\ndoany i 0..n j 0..n : Y[i] += A[i,j]*X[j]\nprint Y\n";
 
-const LARGEST_SIZE: u64 = 4_194_304;
+const LARGEST_SIZE: u32 = 4_194_304;
 
 /// The one form of job so far: a product of a matrix and a vector, each from a file.
 #[derive(Clone, Copy)]
@@ -43,16 +43,6 @@ fn is_file_name(name: &[u8]) -> bool
     ensures { result ≡ is_file_name name.now }
 {
     1 <= name.len() && name.len() <= 255 && are_file_bytes(name)
-}
-
-fn size_of(digits: &[u8]) -> Option<u32>
-    ensures found { IfSome result (λ n. (digits.now ≡ decimal n) × (1 ≤ n) × (n ≤ 4194304)) }
-    ensures only { (n : ℕ) → 1 ≤ n → n ≤ 4194304 → digits.now ≡ decimal n → result ≡ Some n }
-{
-    match numeral(digits) {
-        Some(size) if 1 <= size && size <= LARGEST_SIZE => Some(size as u32),
-        _ => None,
-    }
 }
 
 fn is_behind(rest: &[u8]) -> bool
@@ -107,7 +97,7 @@ fn job_of_fields<'a>(digits: &[u8], matrix: &'a [u8], vector: &'a [u8]) -> Optio
     if !is_file_name(matrix) || !is_file_name(vector) {
         return None;
     }
-    match size_of(digits) {
+    match numeral_to(digits, LARGEST_SIZE) {
         Some(size) => Some(FixedJob {
             size,
             matrix,

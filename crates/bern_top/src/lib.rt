@@ -1,14 +1,14 @@
 //! The commands: words, files in their order, the run, and what is written to the two streams.
 #![tactic(auto)]
 
+mod commands;
 mod events;
 mod fixed_job;
-mod fixed_matrix;
 mod job;
 mod lines;
 mod load_error;
+mod loading;
 mod parts;
-mod product;
 mod ranks;
 mod reading;
 mod run;
@@ -19,5 +19,5 @@ mod top;
 mod writing;
 
 pub use load_error::LoadError;
-pub use run::run_call;
+pub use run::{replay_call, run_call};
 pub use top::bernoulli;

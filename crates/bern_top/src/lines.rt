@@ -52,7 +52,6 @@ fn rule_name(rule: Rule) -> &'static str
         Rule::F7 => "F7",
         Rule::U1 => "U1",
         Rule::U2 => "U2",
-        Rule::U3 => "U3",
     }
 }
 

@@ -1,5 +1,8 @@
-use bern_base::{NoMemory, Refusal, Text};
-use std::alloc::AllocError;
+ghost use Rattle.std.specs.Prelude.{◌≡◌};
+ghost use Rattle.bern_top.specs.Answers.{IsRefusalOf};
+
+use bern_base::{NoMemory, Refusal, Rule, Text};
+use std::alloc::{AllocError, Global};
 use thiserror::Error;
 
 /// Why a command gives no text.
@@ -11,6 +14,16 @@ pub enum LoadError {
     ReadFault { file: Text },
     #[error("out of memory")]
     NoMemory,
+}
+
+/// The refusal of a file at a line; line 0 is the file as a whole.
+pub fn refusal(alloc: Global, name: &[u8], line: u64, rule: Rule) -> LoadError
+    ensures { IsRefusalOf (Refusal.File name.now line rule) result }
+{
+    match Text::from_bytes(alloc, name) {
+        Ok(file) => LoadError::Refused(Refusal::File { file, line, rule }),
+        Err(_) => LoadError::NoMemory,
+    }
 }
 
 impl From<NoMemory> for LoadError {

@@ -1,4 +1,4 @@
-ghost use Rattle.std.specs.Prelude.{◌≡◌, ℕ, ◌^◌, ◌<◌, ◌≤◌, [], length, IsTrue, IfOk, IfSome, OnOk};
+ghost use Rattle.std.specs.Prelude.{◌≡◌, ℕ, ◌^◌, ◌<◌, ◌≤◌, [], length, IsTrue, IsOk, IfOk, IfSome, OnOk};
 ghost use Rattle.std.specs.Io.{ReadsAtMost};
 ghost use Rattle.std.specs.Io.KnownBytes.{ReadConsumes};
 ghost use Rattle.bern_ports.specs.Causes.{HasCause};
@@ -11,7 +11,7 @@ use bern_ports::{Failed, Shelf};
 use std::alloc::Global;
 
 /// At most so many bytes are asked for at once.
-const PIECE: usize = 65_536;
+pub const PIECE: usize = 65_536;
 
 /// The bytes of a file, or nothing where it has more than `limit`. No byte after the first one past the limit is taken.
 pub fn read_file<F: Shelf>(
@@ -22,8 +22,9 @@ pub fn read_file<F: Shelf>(
 ) -> Result<Option<Text>, LoadError>
     requires { limit < 2 ^ 32 }
     ensures files { F.files shelf.new ≡ F.files shelf.old }
+    ensures sure { F.sure shelf.new ≡ F.sure shelf.old }
     ensures cause { HasFaultCause (F.faults shelf.old) (F.faults shelf.new) result }
-    ensures blame { IfSome (F.files shelf.old) (BlamesOne (F.faults_on shelf.old) (F.faults_on shelf.new) result) }
+    ensures blame { IfSome (F.files shelf.old) (BlamesOne (F.sure shelf.old) (F.faults_on shelf.old) (F.faults_on shelf.new) result) }
     ensures short { IfOk result (λ o. IfSome o (λ bytes. length bytes ≤ limit)) }
     ensures told { IfSome (F.files shelf.old) (λ fs. ReadsWhole fs name.now limit result) }
 {
@@ -34,7 +35,7 @@ pub fn read_file<F: Shelf>(
 }
 
 /// The fault of a call on that file.
-fn fault_at(alloc: Global, name: &Text) -> LoadError
+pub fn fault_at(alloc: Global, name: &Text) -> LoadError
     ensures { IsFaultAt name.now result }
 {
     match Text::from_bytes(alloc, name.as_bytes()) {
@@ -44,17 +45,19 @@ fn fault_at(alloc: Global, name: &Text) -> LoadError
 }
 
 /// Reads at most so many bytes into the front of `piece`.
-fn read_piece<F: Shelf>(shelf: &mut F, piece: &mut [u8], most: usize) -> Result<usize, Failed>
+pub fn read_piece<F: Shelf>(shelf: &mut F, piece: &mut [u8], most: usize) -> Result<usize, Failed>
     requires begun { IsTrue (F.begun shelf.old) }
     requires some { 0 < most }
     requires room { most ≤ length piece.old }
     ensures files { F.files shelf.new ≡ F.files shelf.old }
+    ensures sure { F.sure shelf.new ≡ F.sure shelf.old }
     ensures begun { IsTrue (F.begun shelf.new) }
     ensures current { F.current shelf.new ≡ F.current shelf.old }
     ensures blame { BlamesOnly (F.files shelf.old) (F.current shelf.old) (F.faults_on shelf.old) (F.faults_on shelf.new) result }
     ensures bound { IfOk result (λ n. n ≤ most) }
     ensures bytes { ReadConsumes (F.left shelf.old) (F.left shelf.new) result piece.new }
     ensures cause { HasCause (F.faults shelf.old) (F.faults shelf.new) result }
+    ensures succeeds { IsTrue (F.sure shelf.old) → IsOk result }
 {
     shelf.read(&mut piece[..most])
 }
@@ -71,8 +74,9 @@ fn read_on<F: Shelf>(
     requires start { IfSome (F.files shelf.old) (λ fs. Stands fs name.now [] (F.left shelf.old)) }
     requires current { IfSome (F.files shelf.old) (λ fs. F.current shelf.old ≡ name.now) }
     ensures files { F.files shelf.new ≡ F.files shelf.old }
+    ensures sure { F.sure shelf.new ≡ F.sure shelf.old }
     ensures cause { HasFaultCause (F.faults shelf.old) (F.faults shelf.new) result }
-    ensures blame { IfSome (F.files shelf.old) (BlamesOne (F.faults_on shelf.old) (F.faults_on shelf.new) result) }
+    ensures blame { IfSome (F.files shelf.old) (BlamesOne (F.sure shelf.old) (F.faults_on shelf.old) (F.faults_on shelf.new) result) }
     ensures short { IfOk result (λ o. IfSome o (λ bytes. length bytes ≤ limit)) }
     ensures told { IfSome (F.files shelf.old) (λ fs. ReadsWhole fs name.now limit result) }
 {

@@ -1,20 +1,19 @@
-ghost use Rattle.std.specs.Prelude.{◌≡◌, ◌≤◌, ◌<◌, codes, false, length, IfOk, IfSome, Some};
-ghost use Rattle.std.specs.List.{All};
-ghost use Rattle.bern_ports.specs.Files.{bytes_of};
+ghost use Rattle.std.specs.Prelude.{◌≡◌, ◌≤◌, ◌++◌, codes, false, true, length, if◌then◌else◌, [], IfOk, IfSome};
+ghost use Rattle.bern_base.specs.Matrix.{IsMatrix};
 ghost use Rattle.dense_model.specs.ArrayText.{array_text};
-ghost use Rattle.dense_model.specs.Dense.{dense, due_text, first_state};
-ghost use Rattle.dense_model.specs.State.{values_in};
-ghost use Rattle.bern_top.specs.Answers.{Agrees, BlamesOne, HasFaultCause, IsRefusalOf, Loads, LoadsBytes, LoadsWith, Parses};
+ghost use Rattle.bern_top.specs.Answers.{Agrees, BlamesOne, HasFaultCause, IsAnswer, LoadsArray};
+ghost use Rattle.bern_top.specs.Asked.{command_with};
 ghost use Rattle.bern_top.specs.FixedJob.{job_of};
-ghost use Rattle.bern_top.specs.FixedMatrix.{IsEntry};
-ghost use Rattle.bern_top.specs.Walk.{Runs, ReadsMatrix, ReadsVector, Comes, ComesMatrix, ComesVector};
+ghost use Rattle.bern_top.specs.Product.{events_text};
+ghost use Rattle.bern_top.specs.Walk.{Runs, Comes, ComesMatrix, HasMatrix, matrix_ending, vector_ending, product_text};
 
+use crate::events::write_events;
 use crate::fixed_job::{FixedJob, fixed_job};
-use crate::fixed_matrix::fixed_matrix;
-use crate::load_error::LoadError;
-use crate::product::{product, vector_of};
+use crate::load_error::{LoadError, refusal};
+use crate::loading::{load_array, use_matrix};
+use crate::ranks::product_on_ranks;
 use crate::reading::read_file;
-use bern_base::{Entry, Items, NoMemory, Refusal, Rule, Steps, Text, Val};
+use bern_base::{Items, Matrix, NoMemory, Rule, Steps, Text, Val};
 use bern_ports::Shelf;
 use mm_text::write_array;
 use std::alloc::Global;
@@ -22,11 +21,19 @@ use std::sync::ledger::Ledger;
 
 const JOB_LIMIT: usize = 1_048_576;
 
-const MATRIX_LIMIT: usize = 67_108_864;
+/// How a job is to be run.
+#[derive(Clone, Copy)]
+pub struct RunOptions {
+    pub ranks: u32,
+    /// What chooses the order of the events.
+    pub seed: u64,
+    /// Whether the number of events is told behind the arrays.
+    pub events: bool,
+}
 
-/// Runs the job of that file and answers the printed text of its arrays.
+/// Runs the job of that file on 1 to 64 ranks and answers the printed text of its arrays.
 ///
-/// So far `ranks` is 1 and `report` is false, and nothing is counted in `steps`.
+/// So far `report` is false, and nothing is counted in `steps`.
 pub fn run_call<F: Shelf, L: Ledger>(
     alloc: Global,
     job: &Text,
@@ -35,128 +42,122 @@ pub fn run_call<F: Shelf, L: Ledger>(
     shelf: &mut F,
     steps: &mut Steps<L>,
 ) -> Result<Text, LoadError>
-    requires one { ranks ≡ 1 }
+    requires some { 1 ≤ ranks }
+    requires most { ranks ≤ 64 }
     requires plain { report ≡ false }
     ensures files { F.files shelf.new ≡ F.files shelf.old }
+    ensures sure { F.sure shelf.new ≡ F.sure shelf.old }
     ensures cause { HasFaultCause (F.faults shelf.old) (F.faults shelf.new) result }
-    ensures blame { IfSome (F.files shelf.old) (BlamesOne (F.faults_on shelf.old) (F.faults_on shelf.new) result) }
-    ensures told { IfSome (F.files shelf.old) (λ fs. Agrees (Runs fs job.now) (Comes fs job.now) result) }
+    ensures blame { IfSome (F.files shelf.old) (BlamesOne (F.sure shelf.old) (F.faults_on shelf.old) (F.faults_on shelf.new) result) }
+    ensures told { IfSome (F.files shelf.old) (λ fs. Agrees (Runs fs (record { job = job.now; ranks = ranks; events = false })) (Comes fs job.now) result) }
+{
+    let options = RunOptions {
+        ranks,
+        seed: 0,
+        events: false,
+    };
+    run_job(alloc, job, options, shelf)
+}
+
+/// Runs the job of that file on 1 to 64 ranks, in an order of events that the seed chooses, and answers the printed text
+/// of its arrays and the number of events.
+///
+/// Nothing is counted in `steps`.
+pub fn replay_call<F: Shelf, L: Ledger>(
+    alloc: Global,
+    job: &Text,
+    ranks: u32,
+    seed: u64,
+    shelf: &mut F,
+    steps: &mut Steps<L>,
+) -> Result<Text, LoadError>
+    requires some { 1 ≤ ranks }
+    requires most { ranks ≤ 64 }
+    ensures files { F.files shelf.new ≡ F.files shelf.old }
+    ensures sure { F.sure shelf.new ≡ F.sure shelf.old }
+    ensures cause { HasFaultCause (F.faults shelf.old) (F.faults shelf.new) result }
+    ensures blame { IfSome (F.files shelf.old) (BlamesOne (F.sure shelf.old) (F.faults_on shelf.old) (F.faults_on shelf.new) result) }
+    ensures told { IfSome (F.files shelf.old) (λ fs. Agrees (Runs fs (record { job = job.now; ranks = ranks; events = true })) (Comes fs job.now) result) }
+{
+    let options = RunOptions {
+        ranks,
+        seed,
+        events: true,
+    };
+    run_job(alloc, job, options, shelf)
+}
+
+fn run_job<F: Shelf>(
+    alloc: Global,
+    job: &Text,
+    options: RunOptions,
+    shelf: &mut F,
+) -> Result<Text, LoadError>
+    requires some { 1 ≤ options.ranks }
+    requires most { options.ranks ≤ 64 }
+    ensures files { F.files shelf.new ≡ F.files shelf.old }
+    ensures sure { F.sure shelf.new ≡ F.sure shelf.old }
+    ensures cause { HasFaultCause (F.faults shelf.old) (F.faults shelf.new) result }
+    ensures blame { IfSome (F.files shelf.old) (BlamesOne (F.sure shelf.old) (F.faults_on shelf.old) (F.faults_on shelf.new) result) }
+    ensures told { IfSome (F.files shelf.old) (λ fs. Agrees (Runs fs (command_with job.now options)) (Comes fs job.now) result) }
 {
     match read_file(alloc, job, JOB_LIMIT, shelf) {
         Ok(Some(bytes)) => match fixed_job(bytes.as_bytes()) {
-            Some(form) => run_form(alloc, form, shelf),
-            None => Err(refusal(alloc, job.as_bytes(), Rule::U2)),
+            Some(form) => run_form(alloc, form, options, shelf),
+            None => Err(refusal(alloc, job.as_bytes(), 0, Rule::U2)),
         },
-        Ok(None) => Err(refusal(alloc, job.as_bytes(), Rule::U2)),
-        Err(fault) => Err(fault),
-    }
-}
-
-/// The refusal of a whole file.
-fn refusal(alloc: Global, name: &[u8], rule: Rule) -> LoadError
-    ensures { IsRefusalOf (Refusal.File name.now 0 rule) result }
-{
-    match Text::from_bytes(alloc, name) {
-        Ok(file) => LoadError::Refused(Refusal::File {
-            file,
-            line: 0,
-            rule,
-        }),
-        Err(_) => LoadError::NoMemory,
-    }
-}
-
-/// The entries that these bytes of a file spell.
-fn parse_matrix(
-    alloc: Global,
-    name: &[u8],
-    bytes: &[u8],
-    rows: u32,
-    cols: u32,
-) -> Result<Items<Entry>, LoadError>
-    requires { length bytes.now ≤ 67108864 }
-    ensures parses { Parses name.now rows cols bytes.now result }
-{
-    match fixed_matrix(alloc, bytes, rows, cols) {
-        Ok(Some(entries)) => Ok(entries),
-        Ok(None) => Err(refusal(alloc, name, Rule::U3)),
-        Err(_) => Err(LoadError::NoMemory),
-    }
-}
-
-/// The bytes of a matrix file that is not too long.
-fn load_bytes<F: Shelf>(alloc: Global, name: &[u8], shelf: &mut F) -> Result<Text, LoadError>
-    ensures files { F.files shelf.new ≡ F.files shelf.old }
-    ensures cause { HasFaultCause (F.faults shelf.old) (F.faults shelf.new) result }
-    ensures blame { IfSome (F.files shelf.old) (BlamesOne (F.faults_on shelf.old) (F.faults_on shelf.new) result) }
-    ensures short { IfOk result (λ bytes. length bytes ≤ 67108864) }
-    ensures told { IfSome (F.files shelf.old) (λ fs. LoadsBytes fs name.now result) }
-{
-    let Ok(file) = Text::from_bytes(alloc, name) else {
-        return Err(LoadError::NoMemory);
-    };
-    match read_file(alloc, &file, MATRIX_LIMIT, shelf) {
-        Ok(Some(bytes)) => Ok(bytes),
-        Ok(None) => Err(refusal(alloc, name, Rule::U3)),
-        Err(fault) => Err(fault),
-    }
-}
-
-/// The entries of a matrix file, with its bytes.
-fn load_matrix<F: Shelf>(
-    alloc: Global,
-    name: &[u8],
-    rows: u32,
-    cols: u32,
-    shelf: &mut F,
-) -> Result<(Items<Entry>, Text), LoadError>
-    ensures files { F.files shelf.new ≡ F.files shelf.old }
-    ensures cause { HasFaultCause (F.faults shelf.old) (F.faults shelf.new) result }
-    ensures blame { IfSome (F.files shelf.old) (BlamesOne (F.faults_on shelf.old) (F.faults_on shelf.new) result) }
-    ensures inside { IfOk result (λ p. All (IsEntry rows cols) p.0) }
-    ensures short { IfOk result (λ p. length p.1 ≤ 67108864) }
-    ensures told { IfSome (F.files shelf.old) (λ fs. LoadsWith fs name.now rows cols result) }
-{
-    match load_bytes(alloc, name, shelf) {
-        Ok(bytes) => match parse_matrix(alloc, name, bytes.as_bytes(), rows, cols) {
-            Ok(entries) => Ok((entries, bytes)),
-            Err(fault) => Err(fault),
-        },
+        Ok(None) => Err(refusal(alloc, job.as_bytes(), 0, Rule::U2)),
         Err(fault) => Err(fault),
     }
 }
 
 /// The run from the matrix's file on.
-fn run_form<F: Shelf>(alloc: Global, job: FixedJob<'_>, shelf: &mut F) -> Result<Text, LoadError>
+fn run_form<F: Shelf>(
+    alloc: Global,
+    job: FixedJob<'_>,
+    options: RunOptions,
+    shelf: &mut F,
+) -> Result<Text, LoadError>
+    requires some { 1 ≤ options.ranks }
+    requires most { options.ranks ≤ 64 }
+    requires size { 1 ≤ job.size }
+    requires limit { job.size ≤ 4194304 }
     ensures files { F.files shelf.new ≡ F.files shelf.old }
+    ensures sure { F.sure shelf.new ≡ F.sure shelf.old }
     ensures cause { HasFaultCause (F.faults shelf.old) (F.faults shelf.new) result }
-    ensures blame { IfSome (F.files shelf.old) (BlamesOne (F.faults_on shelf.old) (F.faults_on shelf.new) result) }
-    ensures told { IfSome (F.files shelf.old) (λ fs. Agrees (ReadsMatrix fs (job_of job.entry)) (ComesMatrix fs (job_of job.entry)) result) }
+    ensures blame { IfSome (F.files shelf.old) (BlamesOne (F.sure shelf.old) (F.faults_on shelf.old) (F.faults_on shelf.new) result) }
+    ensures told { IfSome (F.files shelf.old) (λ fs. IsAnswer (matrix_ending fs options.ranks options.events (job_of job.entry)) (ComesMatrix fs (job_of job.entry)) result) }
 {
-    match load_matrix(alloc, job.matrix, job.size, job.size, shelf) {
-        Ok((matrix, bytes)) => run_matrix(alloc, job, &matrix, bytes, shelf),
+    match load_array(alloc, job.matrix, job.size, job.size, shelf) {
+        Ok(matrix) => run_matrix(alloc, job, options, matrix, shelf),
         Err(fault) => Err(fault),
     }
 }
 
-/// The run from the vector's file on; these are the bytes of the matrix's.
+/// The run from the vector's file on.
 fn run_matrix<F: Shelf>(
     alloc: Global,
     job: FixedJob<'_>,
-    matrix: &Items<Entry>,
-    bytes: Text,
+    options: RunOptions,
+    matrix: Matrix,
     shelf: &mut F,
 ) -> Result<Text, LoadError>
-    requires inside { All (IsEntry job.size job.size) matrix.now }
-    requires short { length bytes ≤ 67108864 }
-    requires read { IfSome (F.files shelf.old) (λ fs. bytes_of fs job.matrix.now ≡ Some bytes) }
+    requires some { 1 ≤ options.ranks }
+    requires most { options.ranks ≤ 64 }
+    requires size { 1 ≤ job.size }
+    requires limit { job.size ≤ 4194304 }
+    requires matrix { IsMatrix matrix }
+    requires rows { matrix.rows ≡ job.size }
+    requires cols { matrix.cols ≡ job.size }
+    requires there { IfSome (F.files shelf.old) (λ fs. HasMatrix fs job.matrix.now job.size job.size matrix) }
     ensures files { F.files shelf.new ≡ F.files shelf.old }
+    ensures sure { F.sure shelf.new ≡ F.sure shelf.old }
     ensures cause { HasFaultCause (F.faults shelf.old) (F.faults shelf.new) result }
-    ensures blame { IfSome (F.files shelf.old) (BlamesOne (F.faults_on shelf.old) (F.faults_on shelf.new) result) }
-    ensures told { IfSome (F.files shelf.old) (λ fs. Agrees (ReadsVector fs (job_of job.entry) matrix.now) (ComesVector (job_of job.entry)) result) }
+    ensures blame { IfSome (F.files shelf.old) (BlamesOne (F.sure shelf.old) (F.faults_on shelf.old) (F.faults_on shelf.new) result) }
+    ensures told { IfSome (F.files shelf.old) (λ fs. IsAnswer (vector_ending fs options.ranks options.events (job_of job.entry) matrix) (λ name. name ≡ job.entry.vector.now) result) }
 {
-    match vector_entries(alloc, job, bytes, shelf) {
-        Ok(vector) => match finished(alloc, job.size, matrix, &vector) {
+    match load_vector(alloc, job, &matrix, shelf) {
+        Ok(vector) => match finished(alloc, job.size, options, matrix, vector) {
             Ok(text) => Ok(text),
             Err(_) => Err(LoadError::NoMemory),
         },
@@ -164,63 +165,78 @@ fn run_matrix<F: Shelf>(
     }
 }
 
-/// The entries of the vector's file. A file that is named twice is read once, so its bytes serve both.
-fn vector_entries<F: Shelf>(
+/// The matrix of the vector's file. A file that is named twice is read once, so its matrix serves both arrays.
+fn load_vector<F: Shelf>(
     alloc: Global,
     job: FixedJob<'_>,
-    bytes: Text,
+    matrix: &Matrix,
     shelf: &mut F,
-) -> Result<Items<Entry>, LoadError>
-    requires short { length bytes ≤ 67108864 }
-    requires read { IfSome (F.files shelf.old) (λ fs. bytes_of fs job.matrix.now ≡ Some bytes) }
+) -> Result<Matrix, LoadError>
+    requires matrix { IsMatrix matrix.now }
+    requires there { IfSome (F.files shelf.old) (λ fs. HasMatrix fs job.matrix.now job.size job.size matrix.now) }
     ensures files { F.files shelf.new ≡ F.files shelf.old }
+    ensures sure { F.sure shelf.new ≡ F.sure shelf.old }
     ensures cause { HasFaultCause (F.faults shelf.old) (F.faults shelf.new) result }
-    ensures blame { IfSome (F.files shelf.old) (BlamesOne (F.faults_on shelf.old) (F.faults_on shelf.new) result) }
-    ensures inside { IfOk result (λ es. All (IsEntry job.entry.size 1) es) }
-    ensures told { IfSome (F.files shelf.old) (λ fs. Loads fs job.entry.vector.now job.entry.size 1 result) }
+    ensures blame { IfSome (F.files shelf.old) (BlamesOne (F.sure shelf.old) (F.faults_on shelf.old) (F.faults_on shelf.new) result) }
+    ensures matrix { IfOk result (λ m. IsMatrix m) }
+    ensures rows { IfOk result (λ m. m.rows ≡ job.entry.size) }
+    ensures cols { IfOk result (λ m. m.cols ≡ 1) }
+    ensures told { IfSome (F.files shelf.old) (λ fs. LoadsArray fs job.entry.vector.now job.entry.size 1 result) }
 {
-    if job.vector == job.matrix {
-        return parse_matrix(alloc, job.vector, bytes.as_bytes(), job.size, 1);
+    if job.vector != job.matrix {
+        return load_array(alloc, job.vector, job.size, 1, shelf);
     }
-    drop(bytes);
-    match load_matrix(alloc, job.vector, job.size, 1, shelf) {
-        Ok((vector, _)) => Ok(vector),
-        Err(fault) => Err(fault),
+    match copied(alloc, matrix) {
+        Ok(copy) => use_matrix(alloc, job.vector, job.size, 1, copy),
+        Err(_) => Err(LoadError::NoMemory),
     }
 }
 
-/// The printed product.
+fn copied(alloc: Global, matrix: &Matrix) -> Result<Matrix, NoMemory>
+    ensures { IfOk result (λ m. m ≡ matrix.now) }
+{
+    let entries = Items::from_slice(alloc, matrix.entries.as_slice())?;
+    Ok(Matrix {
+        rows: matrix.rows,
+        cols: matrix.cols,
+        entries,
+    })
+}
+
+/// The printed product, and the number of events where it is asked for.
 fn finished(
     alloc: Global,
     size: u32,
-    matrix: &Items<Entry>,
-    vector: &Items<Entry>,
+    options: RunOptions,
+    matrix: Matrix,
+    vector: Matrix,
 ) -> Result<Text, NoMemory>
-    requires matrix { All (IsEntry size size) matrix.now }
-    requires vector { All (IsEntry size 1) vector.now }
-    ensures { IfOk result (λ text. text ≡ due_text size matrix.now vector.now) }
+    requires some { 1 ≤ options.ranks }
+    requires most { options.ranks ≤ 64 }
+    requires size { 1 ≤ size }
+    requires limit { size ≤ 4194304 }
+    requires matrix { IsMatrix matrix }
+    requires rows { matrix.rows ≡ size }
+    requires cols { matrix.cols ≡ size }
+    requires vector { IsMatrix vector }
+    requires long { vector.rows ≡ size }
+    requires column { vector.cols ≡ 1 }
+    ensures { IfOk result (λ text. text ≡ product_text options.ranks options.events size matrix.entries vector.entries) }
 {
-    match multiplied(alloc, size, matrix.as_slice(), vector.as_slice()) {
-        Ok(values) => printed(alloc, size, &values),
-        Err(fault) => Err(fault),
-    }
-}
-
-/// The product of a matrix and a vector by their entries.
-fn multiplied(
-    alloc: Global,
-    size: u32,
-    matrix: &[Entry],
-    vector: &[Entry],
-) -> Result<Items<Val>, NoMemory>
-    requires matrix { All (IsEntry size size) matrix.now }
-    requires vector { All (IsEntry size 1) vector.now }
-    ensures values { IfOk result (λ values. values ≡ values_in (dense size (first_state size matrix.now vector.now)) 2) }
-    ensures length { IfOk result (λ values. length values ≡ size) }
-{
-    match vector_of(alloc, size, vector) {
-        Ok(vector) => product(alloc, size, matrix, vector.as_slice()),
-        Err(fault) => Err(fault),
+    let (values, events) = match product_on_ranks(
+        alloc,
+        size,
+        options.ranks,
+        options.seed,
+        matrix,
+        vector,
+    ) {
+        Ok(done) => done,
+        Err(error) => return Err(error),
+    };
+    match printed(alloc, size, &values) {
+        Ok(text) => with_events(text, options.events, events),
+        Err(error) => Err(error),
     }
 }
 
@@ -232,5 +248,16 @@ fn printed(alloc: Global, size: u32, values: &Items<Val>) -> Result<Text, NoMemo
     let name = Text::from_bytes(alloc, b"Y")?;
     let mut text = Text::new(alloc);
     write_array(&name, size, 1, values, &mut text)?;
+    Ok(text)
+}
+
+fn with_events(text: Text, told: bool, events: u64) -> Result<Text, NoMemory>
+    ensures { IfOk result (λ t. t ≡ text ++ (if told then events_text events else [])) }
+{
+    if !told {
+        return Ok(text);
+    }
+    let mut text = text;
+    write_events(events, &mut text)?;
     Ok(text)
 }

@@ -1,6 +1,6 @@
-ghost use Rattle.std.specs.Prelude.{◌≡◌, ℕ, ◌^◌, ◌<◌, List, ◌∷◌, ◌++◌, decimal, false, Some, IfSome, position};
+ghost use Rattle.std.specs.Prelude.{◌≡◌, ℕ, ◌^◌, ◌<◌, ◌≤◌, List, ◌∷◌, ◌++◌, decimal, Some, IfSome, position};
 ghost use Rattle.std.specs.Option.{option_map};
-ghost use Rattle.bern_top.specs.Scan.{Lacks, is_byte, is_digit, slice_now, both_now, number_now};
+ghost use Rattle.bern_top.specs.Scan.{Lacks, is_byte, slice_now, both_now};
 
 use itoa::Buffer;
 
@@ -71,17 +71,13 @@ fn parsed(digits: &[u8]) -> Option<u64>
     }
 }
 
-/// The number at the front, and what stands behind the byte `end` that follows it; `end` is no digit.
-pub fn number(bytes: &[u8], end: u8) -> Option<(u64, &[u8])>
-    requires { is_digit end ≡ false }
-    ensures found { IfSome result (λ p. bytes.now ≡ decimal p.0 ++ end ∷ p.1.now) }
-    ensures only { (n : ℕ) (more : List ℕ) → n < 2 ^ 64 → bytes.now ≡ decimal n ++ end ∷ more → option_map number_now result ≡ Some (n, more) }
+/// The number from 1 to `most` that these decimal digits spell.
+pub fn numeral_to(digits: &[u8], most: u32) -> Option<u32>
+    ensures found { IfSome result (λ n. (digits.now ≡ decimal n) × (1 ≤ n) × (n ≤ most)) }
+    ensures only { (n : ℕ) → 1 ≤ n → n ≤ most → digits.now ≡ decimal n → result ≡ Some n }
 {
-    match cut(bytes, end) {
-        Some((digits, behind)) => match numeral(digits) {
-            Some(number) => Some((number, behind)),
-            None => None,
-        },
-        None => None,
+    match numeral(digits) {
+        Some(number) if 1 <= number && number <= most as u64 => Some(number as u32),
+        _ => None,
     }
 }

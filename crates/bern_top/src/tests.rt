@@ -1,8 +1,10 @@
-ghost use Rattle.std.specs.Prelude.{◌≡◌, ◌<◌};
+ghost use Rattle.std.specs.Prelude.{◌≡◌, ◌≢◌, ◌<◌, ℕ, List, map, string_bytes, IfSome, IsSome, IsTrue};
+ghost use Rattle.bern_ports.specs.Files.{bytes_of};
+ghost use Rattle.bern_top.specs.Top.{IsVisited};
 
 use super::*;
 use bern_base::{Items, NoMemory, Steps, Text};
-use bern_ports::{Failed, MemShelf, MemSink, Shelf, are_once};
+use bern_ports::{Failed, MemShelf, MemSink, Shelf, Sink, SureSink, are_once};
 use std::alloc::Global;
 use std::marker::Brand;
 use std::sync::ledger::{Blank, Ledger};
@@ -94,15 +96,15 @@ impl<F: Shelf> Shelf for Counting<F> {
     ghost sure_tells = { λ s. F.sure_tells s.shelf };
 }
 
-fn words(alloc: Global) -> Result<Vec<String>, NoMemory> {
+fn words(alloc: Global, all: &[&str]) -> Result<Vec<String>, NoMemory> {
     let mut words = Vec::new(alloc);
-    words.push(String::from_str(alloc, "run")?)?;
-    words.push(String::from_str(alloc, "job.txt")?)?;
-    words.push(String::from_str(alloc, "1")?)?;
+    for word in all {
+        words.push(String::from_str(alloc, word)?)?;
+    }
     Ok(words)
 }
 
-/// What a run answers: its status, and what stands on both streams.
+/// What a command answers: its status, and what stands on both streams.
 #[derive(Drop)]
 struct Outcome {
     status: u8,
@@ -110,7 +112,7 @@ struct Outcome {
     err: MemSink,
 }
 
-fn seen<F: Shelf, L: Ledger>(
+fn counted<F: Shelf, L: Ledger>(
     alloc: Global,
     words: &[String],
     shelf: &mut F,
@@ -128,20 +130,63 @@ fn seen<F: Shelf, L: Ledger>(
     Ok(Outcome { status, out, err })
 }
 
+fn outcome_of<F: Shelf>(
+    alloc: Global,
+    all: &[&str],
+    shelf: &mut F,
+    fails: Items<u64>,
+) -> Result<Outcome, NoMemory> {
+    counted::<_, Brand>(alloc, &words(alloc, all)?, shelf, fails, Blank::new(1))
+}
+
+/// The outcome of a command over the files of the first job.
+fn first_job(
+    alloc: Global,
+    all: &[&str],
+    fails: Items<(Text, u64)>,
+    write_fails: Items<u64>,
+) -> Result<Option<Outcome>, NoMemory> {
+    match shelf(alloc, JOB, MATRIX, VECTOR, fails)? {
+        Some(mut shelf) => Ok(Some(outcome_of(alloc, all, &mut shelf, write_fails)?)),
+        None => Ok(None),
+    }
+}
+
 #[test]
-fn a_product_is_printed(rt: HostRuntime) -> Result<(), Fail> {
+fn a_product_is_printed_on_any_number_of_ranks(rt: HostRuntime) -> Result<(), Fail> {
     let alloc = rt.alloc();
-    let mut shelf = shelf(alloc, JOB, MATRIX, VECTOR, no_fails(alloc))?.ok_or("twice")?;
-    let seen = seen::<_, Brand>(
-        alloc,
-        &words(alloc)?,
-        &mut shelf,
-        Items::new(alloc),
-        Blank::new(1),
-    )?;
-    assert_eq!(rt; seen.status, 0);
-    assert_eq!(rt; seen.out.bytes(), DUE);
-    assert_eq!(rt; seen.err.bytes(), b"".as_slice());
+    for ranks in ["1", "2", "3", "4"] {
+        let seen = first_job(
+            alloc,
+            &["run", "job.txt", ranks],
+            no_fails(alloc),
+            Items::new(alloc),
+        )?
+        .ok_or("twice")?;
+        assert_eq!(rt; seen.status, 0);
+        assert_eq!(rt; seen.out.bytes(), DUE);
+        assert_eq!(rt; seen.err.bytes(), b"".as_slice());
+    }
+    Ok(())
+}
+
+#[test]
+fn a_replay_tells_its_events_whatever_its_seed(rt: HostRuntime) -> Result<(), Fail> {
+    let alloc = rt.alloc();
+    for seed in ["0", "7", "18446744073709551615"] {
+        let seen = first_job(
+            alloc,
+            &["replay", "job.txt", "2", seed],
+            no_fails(alloc),
+            Items::new(alloc),
+        )?
+        .ok_or("twice")?;
+        assert_eq!(rt; seen.status, 0);
+        assert_eq!(rt;
+            seen.out.bytes(),
+            b"%%MatrixMarket matrix array integer general\n% Y\n3 1\n5\n0\n10\nevents 14\n".as_slice()
+        );
+    }
     Ok(())
 }
 
@@ -149,12 +194,11 @@ fn a_product_is_printed(rt: HostRuntime) -> Result<(), Fail> {
 fn one_file_serves_both_arrays_where_it_has_both_sizes(rt: HostRuntime) -> Result<(), Fail> {
     let alloc = rt.alloc();
     let mut shelf = shelf(alloc, ONE_FILE_JOB, ONE, b"", no_fails(alloc))?.ok_or("twice")?;
-    let seen = seen::<_, Brand>(
+    let seen = outcome_of(
         alloc,
-        &words(alloc)?,
+        &["run", "job.txt", "1"],
         &mut shelf,
         Items::new(alloc),
-        Blank::new(1),
     )?;
     assert_eq!(rt; seen.status, 0);
     assert_eq!(rt;
@@ -164,60 +208,125 @@ fn one_file_serves_both_arrays_where_it_has_both_sizes(rt: HostRuntime) -> Resul
     Ok(())
 }
 
+/// Each file with its number of calls, a `begin` and the reads of 16 bytes, and the line of its fault.
+const CALLS: &[(&[u8], u64, &[u8])] = &[
+    (b"job.txt", 16, b"read fault job.txt\n"),
+    (b"a.mtx", 7, b"read fault a.mtx\n"),
+    (b"x.mtx", 7, b"read fault x.mtx\n"),
+];
+
 #[test]
-fn a_failing_read_names_its_file_and_leaves_out_empty(rt: HostRuntime) -> Result<(), Fail> {
+fn each_call_that_fails_in_turn_names_its_file(rt: HostRuntime) -> Result<(), Fail> {
     let alloc = rt.alloc();
-    let mut shelf = shelf(alloc, JOB, MATRIX, VECTOR, one_fail(alloc, b"x.mtx", 2)?)?.ok_or(
-        "twice",
-    )?;
-    let seen = seen::<_, Brand>(
-        alloc,
-        &words(alloc)?,
-        &mut shelf,
-        Items::new(alloc),
-        Blank::new(1),
-    )?;
-    assert_eq!(rt; seen.status, 3);
-    assert_eq!(rt; seen.out.bytes(), b"".as_slice());
-    assert_eq!(rt; seen.err.bytes(), b"read fault x.mtx\n".as_slice());
+    for (name, calls, line) in CALLS {
+        for call in 0..*calls {
+            let fails = one_fail(alloc, name, call)?;
+            let seen = first_job(alloc, &["run", "job.txt", "1"], fails, Items::new(alloc))?.ok_or(
+                "twice",
+            )?;
+            assert_eq!(rt; seen.status, 3);
+            assert_eq!(rt; seen.out.bytes(), b"".as_slice());
+            assert_eq!(rt; seen.err.bytes(), *line);
+        }
+    }
     Ok(())
 }
 
 #[test]
-fn a_failing_write_leaves_a_front_of_the_text(rt: HostRuntime) -> Result<(), Fail> {
+fn a_write_that_fails_leaves_what_was_written_before(rt: HostRuntime) -> Result<(), Fail> {
     let alloc = rt.alloc();
-    let mut shelf = shelf(alloc, JOB, MATRIX, VECTOR, no_fails(alloc))?.ok_or("twice")?;
-    let fails = Items::from_slice(alloc, &[2])?;
-    let seen = seen::<_, Brand>(alloc, &words(alloc)?, &mut shelf, fails, Blank::new(1))?;
-    assert_eq!(rt; seen.status, 4);
-    assert_eq!(rt; seen.out.bytes(), b"%%MatrixMarket matri".as_slice());
-    assert_eq!(rt; seen.err.bytes(), b"write fault\n".as_slice());
+    // Each write takes 10 bytes, and the last one what is left.
+    for call in 0..6 {
+        let fails = Items::from_slice(alloc, &[call])?;
+        let seen = first_job(alloc, &["run", "job.txt", "1"], no_fails(alloc), fails)?.ok_or(
+            "twice",
+        )?;
+        assert_eq!(rt; seen.status, 4);
+        assert_eq!(rt; seen.out.bytes(), &DUE[..10 * call as usize]);
+        assert_eq!(rt; seen.err.bytes(), b"write fault\n".as_slice());
+    }
+    Ok(())
+}
+
+/// Files of matrix and vector that are refused, and the line.
+const REFUSED: &[(&[u8], &[u8], &[u8])] = &[
+    (b"", VECTOR, b"refused a.mtx:1 M1\n"),
+    (VECTOR, VECTOR, b"refused a.mtx:0 F1\n"),
+    (MATRIX, MATRIX, b"refused x.mtx:0 F1\n"),
+    (
+        b"%%MatrixMarket matrix coordinate integer general\n3 3 2\n1 1 2\n",
+        b"",
+        b"refused a.mtx:4 M10\n",
+    ),
+    (
+        b"%%MatrixMarket matrix coordinate integer general\n3 3 1\n1 1 2\n1 1 2",
+        b"",
+        b"refused a.mtx:4 M11\n",
+    ),
+    (
+        MATRIX,
+        b"%%MatrixMarket matrix coordinate integer general\n3 1 1\n1 1",
+        b"refused x.mtx:3 M6\n",
+    ),
+];
+
+#[test]
+fn the_first_broken_rule_of_the_first_file_is_told(rt: HostRuntime) -> Result<(), Fail> {
+    let alloc = rt.alloc();
+    for (matrix, vector, line) in REFUSED {
+        let mut shelf = shelf(alloc, JOB, matrix, vector, no_fails(alloc))?.ok_or("twice")?;
+        let seen = outcome_of(
+            alloc,
+            &["run", "job.txt", "2"],
+            &mut shelf,
+            Items::new(alloc),
+        )?;
+        assert_eq!(rt; seen.status, 2);
+        assert_eq!(rt; seen.out.bytes(), b"".as_slice());
+        assert_eq!(rt; seen.err.bytes(), *line);
+    }
     Ok(())
 }
 
 #[test]
-fn a_file_without_its_form_is_refused(rt: HostRuntime) -> Result<(), Fail> {
+fn a_last_line_may_lack_its_end(rt: HostRuntime) -> Result<(), Fail> {
     let alloc = rt.alloc();
-    let mut shelf = shelf(alloc, JOB, VECTOR, VECTOR, no_fails(alloc))?.ok_or("twice")?;
-    let seen = seen::<_, Brand>(
+    let vector =
+        b"%%MatrixMarket matrix array integer general\r\n% three\r\n3 1\r\n1\r\n2\r\n3".as_slice();
+    let mut shelf = shelf(alloc, JOB, MATRIX, vector, no_fails(alloc))?.ok_or("twice")?;
+    let seen = outcome_of(
         alloc,
-        &words(alloc)?,
+        &["run", "job.txt", "3"],
         &mut shelf,
         Items::new(alloc),
-        Blank::new(1),
     )?;
-    assert_eq!(rt; seen.status, 2);
-    assert_eq!(rt; seen.err.bytes(), b"refused a.mtx:0 U3\n".as_slice());
+    assert_eq!(rt; seen.status, 0);
+    assert_eq!(rt; seen.out.bytes(), DUE);
     Ok(())
 }
+
+/// Words that are no command.
+const OTHER_WORDS: &[&[&str]] = &[
+    &[],
+    &["run", "job.txt"],
+    &["run", "job.txt", "0"],
+    &["run", "job.txt", "65"],
+    &["run", "job.txt", "02"],
+    &["run", "job.txt", "+1"],
+    &["walk", "job.txt", "1"],
+    &["replay", "job.txt", "2"],
+    &["replay", "job.txt", "2", "-1"],
+    &["replay", "job.txt", "2", "18446744073709551616"],
+];
 
 #[test]
 fn other_words_are_refused(rt: HostRuntime) -> Result<(), Fail> {
     let alloc = rt.alloc();
-    let mut shelf = shelf(alloc, JOB, MATRIX, VECTOR, no_fails(alloc))?.ok_or("twice")?;
-    let seen = seen::<_, Brand>(alloc, &[], &mut shelf, Items::new(alloc), Blank::new(1))?;
-    assert_eq!(rt; seen.status, 2);
-    assert_eq!(rt; seen.err.bytes(), b"refused words U1\n".as_slice());
+    for all in OTHER_WORDS {
+        let seen = first_job(alloc, all, no_fails(alloc), Items::new(alloc))?.ok_or("twice")?;
+        assert_eq!(rt; seen.status, 2);
+        assert_eq!(rt; seen.err.bytes(), b"refused words U1\n".as_slice());
+    }
     Ok(())
 }
 
@@ -226,15 +335,44 @@ fn a_file_that_is_named_twice_is_begun_once(rt: HostRuntime) -> Result<(), Fail>
     let alloc = rt.alloc();
     let shelf = shelf(alloc, ONE_FILE_JOB, ONE, b"", no_fails(alloc))?.ok_or("twice")?;
     let mut shelf = Counting { shelf, begun: 0 };
-    let seen = seen::<_, Brand>(
+    let seen = outcome_of(
         alloc,
-        &words(alloc)?,
+        &["run", "job.txt", "1"],
         &mut shelf,
         Items::new(alloc),
-        Blank::new(1),
     )?;
     assert_eq!(rt; seen.status, 0);
     // The job's file and the one matrix file.
     assert_eq!(rt; shelf.begun, 2);
     Ok(())
+}
+
+/// Over sinks that cannot fail no write fault is answered.
+fn over_sure_sinks<F: Shelf, L: Ledger>(
+    alloc: Global,
+    words: &[String],
+    shelf: &mut F,
+    steps: &mut Steps<L>,
+) -> u8
+    ensures { result ≢ 4 }
+{
+    let mut out = SureSink::new();
+    let mut err = SureSink::new();
+    bernoulli(alloc, words, shelf, &mut out, &mut err, steps)
+}
+
+/// Over a sure shelf that has each file that the command comes to no read fault is answered.
+fn over_a_sure_shelf<F: Shelf, S: Sink, L: Ledger>(
+    alloc: Global,
+    words: &[String],
+    shelf: &mut F,
+    out: &mut S,
+    err: &mut S,
+    steps: &mut Steps<L>,
+) -> u8
+    requires sure { IsTrue (F.sure shelf.old) }
+    requires there { IfSome (F.files shelf.old) (λ fs. (name : List ℕ) → IsVisited fs (map string_bytes words.now) name → IsSome (bytes_of fs name)) }
+    ensures { result ≢ 3 }
+{
+    bernoulli(alloc, words, shelf, out, err, steps)
 }

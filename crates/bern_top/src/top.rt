@@ -1,12 +1,15 @@
-ghost use Rattle.std.specs.Prelude.{◌≡◌, map, string_bytes, IfSome, IsNone};
+ghost use Rattle.std.specs.Prelude.{◌≡◌, ◌≤◌, map, string_bytes, IfSome};
 ghost use Rattle.bern_top.specs.Answers.{Agrees, BlamesOne, HasFaultCause, HasLine};
 ghost use Rattle.bern_top.specs.Lines.{refusal_line};
-ghost use Rattle.bern_top.specs.Top.{IsNoRun, IsStatus, SaysDone, SaysRefused, SaysWords, SaysReadFault, SaysWriteFault, SaysMemory, SaysDue, SaysRefusal, Says, PrintsText, TellsFault};
-ghost use Rattle.bern_top.specs.Walk.{IsRun, Runs, Comes};
+ghost use Rattle.bern_top.specs.Asked.{asked};
+ghost use Rattle.bern_top.specs.Commands.{IsCommand};
+ghost use Rattle.bern_top.specs.Top.{IsStatus, SaysDone, SaysRefused, SaysWords, SaysReadFault, SaysWriteFault, SaysMemory, SaysDue, SaysRefusal, Says, PrintsText, TellsFault};
+ghost use Rattle.bern_top.specs.Walk.{Runs, Comes};
 
+use crate::commands::{Request, request_of};
 use crate::lines::{write_read_fault, write_refusal};
 use crate::load_error::LoadError;
-use crate::run::run_call;
+use crate::run::{replay_call, run_call};
 use crate::writing::write_whole;
 use bern_base::{Refusal, Rule, Steps, Text};
 use bern_ports::{Shelf, Sink};
@@ -46,7 +49,7 @@ pub fn bernoulli<F: Shelf, S: Sink, L: Ledger>(
     ensures words { SaysWords (map string_bytes words.now)
         (record { old = S.written out.old; new = S.written out.new; before = S.faults out.old; now = S.faults out.new })
         (record { old = S.written err.old; new = S.written err.new; before = S.faults err.old; now = S.faults err.new }) result }
-    ensures read_fault { SaysReadFault (F.files shelf.old) (map string_bytes words.now) (record { total = F.faults shelf.old; by_name = F.faults_on shelf.old }) (record { total = F.faults shelf.new; by_name = F.faults_on shelf.new })
+    ensures read_fault { SaysReadFault (F.files shelf.old) (map string_bytes words.now) (record { total = F.faults shelf.old; by_name = F.faults_on shelf.old; sure = F.sure shelf.old }) (record { total = F.faults shelf.new; by_name = F.faults_on shelf.new; sure = F.sure shelf.new })
         (record { old = S.written out.old; new = S.written out.new; before = S.faults out.old; now = S.faults out.new })
         (record { old = S.written err.old; new = S.written err.new; before = S.faults err.old; now = S.faults err.new }) result }
     ensures write_fault { SaysWriteFault (F.files shelf.old) (map string_bytes words.now)
@@ -55,14 +58,14 @@ pub fn bernoulli<F: Shelf, S: Sink, L: Ledger>(
     ensures memory { SaysMemory
         (record { old = S.written out.old; new = S.written out.new; before = S.faults out.old; now = S.faults out.new })
         (record { old = S.written err.old; new = S.written err.new; before = S.faults err.old; now = S.faults err.new }) result }
-    ensures due { SaysDue (F.files shelf.old) (map string_bytes words.now) (record { total = F.faults shelf.old; by_name = F.faults_on shelf.old }) (record { total = F.faults shelf.new; by_name = F.faults_on shelf.new })
+    ensures due { SaysDue (F.files shelf.old) (map string_bytes words.now) (record { total = F.faults shelf.old; by_name = F.faults_on shelf.old; sure = F.sure shelf.old }) (record { total = F.faults shelf.new; by_name = F.faults_on shelf.new; sure = F.sure shelf.new })
         (record { old = S.written out.old; new = S.written out.new; before = S.faults out.old; now = S.faults out.new }) result }
-    ensures refusal { SaysRefusal (F.files shelf.old) (map string_bytes words.now) (record { total = F.faults shelf.old; by_name = F.faults_on shelf.old }) (record { total = F.faults shelf.new; by_name = F.faults_on shelf.new })
+    ensures refusal { SaysRefusal (F.files shelf.old) (map string_bytes words.now) (record { total = F.faults shelf.old; by_name = F.faults_on shelf.old; sure = F.sure shelf.old }) (record { total = F.faults shelf.new; by_name = F.faults_on shelf.new; sure = F.sure shelf.new })
         (record { old = S.written err.old; new = S.written err.new; before = S.faults err.old; now = S.faults err.new }) result }
 {
-    match job_of(words) {
+    match request_of(words) {
         None => refuse_words(err),
-        Some(name) => run(alloc, words, name, shelf, out, err, steps),
+        Some(request) => run(alloc, words, request, shelf, out, err, steps),
     }
 }
 
@@ -77,35 +80,22 @@ fn refuse_words<S: Sink>(err: &mut S) -> u8
     }
 }
 
-/// The job that is to be run, by the words `run`, its name and `1`.
-fn job_of(words: &[String]) -> Option<&[u8]>
-    ensures found { IfSome result (λ job. IsRun (map string_bytes words.now) job.now) }
-    ensures none { IsNone result → IsNoRun (map string_bytes words.now) }
-{
-    match words {
-        [command, job, ranks] if command.as_str() == "run" && ranks.as_str() == "1" => Some(
-            job.as_bytes(),
-        ),
-        _ => None,
-    }
-}
-
-/// Runs the job of that name; the words are of no use but to the contract.
+/// Does what is asked for; the words are of no use but to the contract.
 fn run<F: Shelf, S: Sink, L: Ledger>(
     alloc: Global,
     words: &[String],
-    name: &[u8],
+    request: Request<'_>,
     shelf: &mut F,
     out: &mut S,
     err: &mut S,
     steps: &mut Steps<L>,
 ) -> u8
-    requires { IsRun (map string_bytes words.now) name.now }
-    ensures { Says (F.files shelf.old) (map string_bytes words.now) (record { total = F.faults shelf.old; by_name = F.faults_on shelf.old }) (record { total = F.faults shelf.new; by_name = F.faults_on shelf.new })
+    requires { IsCommand (map string_bytes words.now) (asked request) }
+    ensures { Says (F.files shelf.old) (map string_bytes words.now) (record { total = F.faults shelf.old; by_name = F.faults_on shelf.old; sure = F.sure shelf.old }) (record { total = F.faults shelf.new; by_name = F.faults_on shelf.new; sure = F.sure shelf.new })
         (record { old = S.written out.old; new = S.written out.new; before = S.faults out.old; now = S.faults out.new })
         (record { old = S.written err.old; new = S.written err.new; before = S.faults err.old; now = S.faults err.new }) result }
 {
-    match loaded(alloc, name, shelf, steps) {
+    match loaded(alloc, request, shelf, steps) {
         Ok(text) => print(&text, out, err),
         Err(fault) => answer(&fault, err),
     }
@@ -113,17 +103,22 @@ fn run<F: Shelf, S: Sink, L: Ledger>(
 
 fn loaded<F: Shelf, L: Ledger>(
     alloc: Global,
-    name: &[u8],
+    request: Request<'_>,
     shelf: &mut F,
     steps: &mut Steps<L>,
 ) -> Result<Text, LoadError>
+    requires some { 1 ≤ request.ranks }
+    requires most { request.ranks ≤ 64 }
     ensures cause { HasFaultCause (F.faults shelf.old) (F.faults shelf.new) result }
-    ensures blame { IfSome (F.files shelf.old) (BlamesOne (F.faults_on shelf.old) (F.faults_on shelf.new) result) }
-    ensures told { IfSome (F.files shelf.old) (λ fs. Agrees (Runs fs name.now) (Comes fs name.now) result) }
+    ensures blame { IfSome (F.files shelf.old) (BlamesOne (F.sure shelf.old) (F.faults_on shelf.old) (F.faults_on shelf.new) result) }
+    ensures told { IfSome (F.files shelf.old) (λ fs. Agrees (Runs fs (asked request.entry)) (Comes fs request.entry.job.now) result) }
 {
-    match Text::from_bytes(alloc, name) {
-        Ok(job) => run_call(alloc, &job, 1, false, shelf, steps),
-        Err(_) => Err(LoadError::NoMemory),
+    let Ok(job) = Text::from_bytes(alloc, request.job) else {
+        return Err(LoadError::NoMemory);
+    };
+    match request.seed {
+        None => run_call(alloc, &job, request.ranks, false, shelf, steps),
+        Some(seed) => replay_call(alloc, &job, request.ranks, seed, shelf, steps),
     }
 }
 

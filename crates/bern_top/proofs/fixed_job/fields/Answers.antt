@@ -1,7 +1,7 @@
 use Rattle.std.proofs.Common.{◌≡◌, List, ℕ, ◌++◌, ◌∷◌, Some, Option, ap, ◌∙◌}
 use Rattle.std.proofs.lemmas.Option.{none-some}
 use Rattle.bern_top.specs.FixedJob.{before_size, files_text}
-use Rattle.bern_top.proofs.ScanLemmas.{same_inside, same_pair}
+use Rattle.bern_top.proofs.ScanLemmas.{same_inside}
 use Rattle.bern_top.proofs.fixed_job.fields.Goals as goal
 
 pub returns-in-Some-file_fields-clause-found : goal.returns-in-Some-file_fields-clause-found

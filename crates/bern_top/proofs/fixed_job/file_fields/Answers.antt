@@ -1,4 +1,4 @@
-use Rattle.std.proofs.Common.{◌≡◌, List, ℕ, ◌++◌, ◌∷◌, Some, ap, ◌∙◌}
+use Rattle.std.proofs.Common.{◌++◌, ◌∷◌, ap, ◌∙◌}
 use Rattle.std.proofs.lemmas.Option.{none-some}
 use Rattle.bern_top.specs.FixedJob.{before_matrix, vector_text}
 use Rattle.bern_top.proofs.ScanLemmas.{same_inside, same_pair}

@@ -1,4 +1,4 @@
-use Rattle.std.proofs.Common.{List, ℕ, ◌++◌, codes}
+use Rattle.std.proofs.Common.{◌++◌, codes}
 use Rattle.bern_top.specs.Lines.{place_text}
 use Rattle.bern_top.proofs.WritingLemmas.{writes_behind, stops_before}
 use Rattle.bern_top.proofs.lines.write_file_refusal.Goals as goal

@@ -6,6 +6,7 @@ abbrev pub invariant-file : goal.invariant-file
 invariant-file g l = record {
   begun : IsTrue (g.F.Shelf.begun l.shelf);
   files : g.F.Shelf.files l.shelf ≡ g.F.Shelf.files l.fn.shelf;
+  sure : g.F.Shelf.sure l.shelf ≡ g.F.Shelf.sure l.fn.shelf;
   later : g.F.Shelf.faults l.fn.shelf ≤ g.F.Shelf.faults l.shelf;
   current : IfSome (g.F.Shelf.files l.fn.shelf) (λ fs. g.F.Shelf.current l.shelf ≡ l.name);
   calm : (n : List ℕ) → g.F.Shelf.faults_on l.shelf n ≡ g.F.Shelf.faults_on l.fn.shelf n;

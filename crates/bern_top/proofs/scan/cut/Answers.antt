@@ -1,5 +1,5 @@
 use Rattle.std.proofs.Common.{sym, ◌∙◌}
-use Rattle.bern_top.proofs.ScanLemmas.{cut_found, cut_inside, cut_only, cut_none, same_pair}
+use Rattle.bern_top.proofs.ScanLemmas.{cut_found, cut_only, cut_none, same_pair}
 use Rattle.bern_top.proofs.scan.cut.Goals as goal
 
 pub returns-in-Some-clause-found : goal.returns-in-Some-clause-found

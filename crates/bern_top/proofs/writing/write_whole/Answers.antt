@@ -1,4 +1,4 @@
-use Rattle.std.proofs.Common.{◌≡◌, List, ℕ, ◌++◌, subst, sym, arith}
+use Rattle.std.proofs.Common.{◌≡◌, ◌++◌, subst, sym, arith}
 use Rattle.bern_top.proofs.WritingLemmas.{writes_more}
 use Rattle.bern_top.proofs.writing.write_whole.Goals as goal
 
