@@ -1,0 +1,22 @@
+//! The rules of a job: names turned into numbers, and the first broken rule at its line.
+#![tactic(auto)]
+
+mod declarations;
+mod expressions;
+mod items;
+mod job;
+mod lookup;
+mod names;
+mod narrow;
+mod nest_rules;
+mod nests;
+mod ranges;
+mod scope;
+mod stop;
+mod sums;
+mod tables;
+mod terms;
+mod walk;
+mod wide;
+
+pub use job::{CheckError, check_job};
