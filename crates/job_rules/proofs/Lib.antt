@@ -6,3 +6,5 @@ pub mod TermLemmas
 pub mod SumLemmas
 pub mod NestLemmas
 pub mod WalkLemmas
+pub mod ProductLemmas
+pub mod BoxLemmas

@@ -7,3 +7,4 @@ pub mod Nests
 pub mod Rules
 pub mod After
 pub mod First
+pub mod Points

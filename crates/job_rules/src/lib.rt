@@ -10,6 +10,7 @@ mod names;
 mod narrow;
 mod nest_rules;
 mod nests;
+mod points;
 mod ranges;
 mod scope;
 mod stop;
@@ -20,3 +21,4 @@ mod walk;
 mod wide;
 
 pub use job::{CheckError, check_job};
+pub use points::subscripts_leave_at_points;
