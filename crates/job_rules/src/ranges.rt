@@ -134,7 +134,7 @@ fn least_part(coefficient: i128, range: Range) -> i128
     ensures small { unsigned_abs result < 2 ^ 103 }
 {
     if coefficient < 0 {
-        product(coefficient, range.hi - 1)
+        product(coefficient, last(range))
     } else {
         product(coefficient, range.lo)
     }
@@ -149,8 +149,17 @@ fn greatest_part(coefficient: i128, range: Range) -> i128
     if coefficient < 0 {
         product(coefficient, range.lo)
     } else {
-        product(coefficient, range.hi - 1)
+        product(coefficient, last(range))
     }
+}
+
+/// The last value of a variable that has one.
+fn last(range: Range) -> i128
+    requires { IsSmallRange range }
+    ensures value { result ≡ range.hi -ℤ pos 1 }
+    ensures small { unsigned_abs result ≤ 2 ^ 67 }
+{
+    range.hi - 1
 }
 
 fn product(coefficient: i128, value: i128) -> i128
