@@ -8,3 +8,5 @@ pub mod NestLemmas
 pub mod WalkLemmas
 pub mod ProductLemmas
 pub mod BoxLemmas
+pub mod AcceptedLemmas
+pub mod AnswerLemmas

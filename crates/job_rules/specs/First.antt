@@ -63,3 +63,10 @@ RefusesAs text error.NoMemory = Unit {0}
 pub record Leads (state : State) (lines : List JobLine) (text : JobText) : Type 0 where
   pub accepts : (job : Checked) → AcceptsFrom state lines text.broken job → Accepts text job
   pub refuses : (line : ℕ) (rule : Rule) → RefusesFrom state lines text.broken line rule → Refuses text line rule
+
+-- a text comes to one answer: to one job, or to one line and rule, and never to both
+pub record HasOneAnswer (text : JobText) : Type 0 where
+  pub job : (a b : Checked) → Accepts text a → Accepts text b → a ≡ b
+  pub line : (a b : ℕ) (r s : Rule) → Refuses text a r → Refuses text b s → a ≡ b
+  pub rule : (a b : ℕ) (r s : Rule) → Refuses text a r → Refuses text b s → r ≡ s
+  pub apart : (a : Checked) (b : ℕ) (s : Rule) → Accepts text a → ¬ (Refuses text b s)

@@ -8,3 +8,4 @@ pub mod Rules
 pub mod After
 pub mod First
 pub mod Points
+pub mod Accepted

@@ -5,6 +5,7 @@ mod declarations;
 mod expressions;
 mod items;
 mod job;
+mod laws;
 mod lookup;
 mod names;
 mod narrow;
@@ -21,4 +22,5 @@ mod walk;
 mod wide;
 
 pub use job::{CheckError, check_job};
+pub use laws::{a_text_has_one_answer, accepted_jobs_fit};
 pub use points::subscripts_leave_at_points;

@@ -1,0 +1,64 @@
+-- What an accepted job keeps: its numbers name items of its own lists, and its sizes and counts are within their limits.
+use Rattle.std.specs.Prelude.{◌≡◌, ℕ, ◌≤◌, List, Option, Some, true, false, length, slice_get, unsigned_abs}
+use Rattle.std.specs.List.{All}
+use Rattle.bern_base.specs.declared.job.ArrayDecl.{ArrayDecl}
+use Rattle.bern_base.specs.declared.job.Checked.{Checked}
+use Rattle.bern_base.specs.declared.job.Nest.{Nest}
+use Rattle.bern_base.specs.declared.job.PlaceDecl.{PlaceDecl}
+use Rattle.bern_base.specs.declared.job.PlaceKind.{PlaceKind}
+use Rattle.bern_base.specs.declared.job.PlaceKind.TheVariants as dealt
+use Rattle.bern_base.specs.declared.job.Shape.{Shape}
+use Rattle.bern_base.specs.declared.job.Shape.TheVariants as shaped
+use Rattle.bern_base.specs.declared.raw.JobText.{JobText}
+use Rattle.job_rules.specs.State.{shape_dims, is_by_row, is_all_dense, is_col}
+use Rattle.job_rules.specs.First.{Accepts}
+
+-- an item of this number is there, and has this
+abbrev pub Has : {A : Type 0} → List A → ℕ → (A → Type 0) → Type 0
+Has {A} items number P = (item : A) × (slice_get items number ≡ Some item) × P item
+
+abbrev pub IsSize : ℕ → Type 0
+IsSize n = (1 ≤ n) × (n ≤ 4194304)
+
+abbrev pub KindFits : PlaceKind → Type 0
+KindFits (dealt.Cyclic block) = IsSize block
+KindFits other = Unit {0}
+
+abbrev pub ShapeFits : Shape → Type 0
+ShapeFits (shaped.Diagonal offsets) = (length offsets ≤ 16) × All (λ offset. unsigned_abs offset ≤ 4194303) offsets
+ShapeFits other = Unit {0}
+
+pub record PlaceFits (job : Checked) (place : PlaceDecl) : Type 0 where
+  pub extent : Has job.extents place.extent (λ e. Unit {0})
+  pub kind : KindFits place.kind
+
+-- the format has as many dimensions, and columns are dealt only where they can be
+pub record ArrayFits (job : Checked) (array : ArrayDecl) : Type 0 where
+  pub format : Has job.formats array.format (λ f. (array.dims ≡ shape_dims f.shape) × (is_by_row f.shape ≡ true → is_col array.axis ≡ false))
+  pub place : Has job.places array.place (λ p. Unit {0})
+
+-- an array of this number is there, and all its levels are dense
+abbrev pub IsDenseIn : Checked → ℕ → Type 0
+IsDenseIn job number = Has job.arrays number (λ a. Has job.formats a.format (λ f. is_all_dense f.shape ≡ true))
+
+pub record NestFits (job : Checked) (nest : Nest) : Type 0 where
+  pub vars : length nest.vars ≤ 4
+  pub guards : length nest.guards ≤ 8
+  pub target : IsDenseIn job nest.target.array
+
+pub record Fits (job : Checked) : Type 0 where
+  pub extent_count : length job.extents ≤ 32
+  pub place_count : length job.places ≤ 16
+  pub format_count : length job.formats ≤ 32
+  pub array_count : length job.arrays ≤ 16
+  pub nest_count : length job.nests ≤ 32
+  pub extents : All (λ e. IsSize e.size) job.extents
+  pub places : All (PlaceFits job) job.places
+  pub formats : All (λ f. ShapeFits f.shape) job.formats
+  pub arrays : All (ArrayFits job) job.arrays
+  pub nests : All (NestFits job) job.nests
+  pub prints : All (IsDenseIn job) job.prints
+
+-- what the rules accept fits
+abbrev pub AcceptedJobsFit : Type 0
+AcceptedJobsFit = (text : JobText) (job : Checked) → Accepts text job → Fits job
