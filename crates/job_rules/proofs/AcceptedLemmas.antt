@@ -1,5 +1,5 @@
 -- An accepted job fits: each line keeps that.
-use Rattle.std.proofs.Common.{◌≡◌, ◌∙◌, ◌⊎◌, inl, inr, ℕ, zero, suc, ◌+◌, ◌<◌, ◌≤◌, Bool, true, false, not, ◌||◌, ◌&&◌, ◌==◌, nat_le, nat_lt, nat_eq, cond, if◌then◌else◌, ℤ, List, [], ◌∷◌, ◌++◌, Option, Some, None, length, length-append, get_or, refl, sym, ap, subst, arith}
+use Rattle.std.proofs.Common.{◌≡◌, ◌∙◌, ◌⊎◌, inl, inr, ℕ, zero, suc, ◌+◌, ◌<◌, ◌≤◌, Bool, true, false, not, ◌||◌, ◌&&◌, ◌==◌, nat_le, nat_lt, nat_eq, cond, if◌then◌else◌, ℤ, List, [], ◌∷◌, ◌++◌, map, Option, Some, None, length, length-append, get_or, refl, sym, ap, subst, arith}
 use Rattle.std.specs.Prelude.{slice_get, is_some, is_none, unsigned_abs}
 use Rattle.std.specs.List.{All, list_any, find, fold}
 use Rattle.std.specs.Str.{bytes_eq}
@@ -23,10 +23,15 @@ use Rattle.job_rules.specs.declared.names.Named.{Named}
 use Rattle.job_rules.specs.declared.names.Named.TheVariants as named
 use Rattle.job_rules.specs.Known.{Known, lookup}
 use Rattle.job_rules.specs.State.{State, start, is_extent, is_place, is_format, is_array, number_of, shape_at, is_all_dense, shape_dims, is_by_row, is_col, is_known}
-use Rattle.job_rules.specs.Nests.{facts_at, no_array, has_other_kind, has_sparse_target, is_too_wide, ranges_of, ref_is_wide, guard_is_wide, is_far, ref_of_other_kind, ref_fails, is_no_count}
-use Rattle.job_rules.specs.Looked.{scope_of, named_in, variables_of, with_variable, nest_in, ref_of, span_of, guard_of}
+use Rattle.job_rules.specs.Nests.{facts_at, no_array, has_other_kind, has_sparse_target, is_too_wide, ranges_of, ref_is_wide, guard_is_wide, is_far, ref_of_other_kind, ref_fails, is_no_count, facts_of, lies_elsewhere, is_aligned, reads_elsewhere}
+use Rattle.job_rules.specs.Looked.{scope_of, named_in, variables_of, with_variable, nest_in, ref_of, span_of, guard_of, Scope, levels, reads_of}
 use Rattle.job_rules.specs.First.{AcceptsFrom}
 use Rattle.job_rules.proofs.ListLemmas.{none_all}
+use Rattle.job_rules.proofs.FormLemmas.{refs_are, same_narrow}
+use Rattle.job_rules.proofs.NestLemmas.{near_bounds}
+use Rattle.bern_base.specs.declared.job.Ref.{Ref}
+use Rattle.job_rules.specs.declared.wide.WideRef.{WideRef}
+use Rattle.job_rules.specs.Sums.{Sum, is_within, same_form}
 use Rattle.bern_base.specs.declared.axes.Axis.{Axis}
 use Rattle.bern_base.specs.declared.job.Shape.{Shape}
 use Rattle.bern_base.specs.declared.raw.RawKind.{RawKind}
@@ -37,8 +42,8 @@ use Rattle.bern_base.specs.declared.raw.RawShape.TheVariants as shape
 use Rattle.bern_base.specs.declared.raw.RawVar.{RawVar}
 use Rattle.bern_base.specs.declared.job.Shape.TheVariants as shaped
 use Rattle.job_rules.specs.Rules.{broken_rule, breaks, table, is_no_size, kind_past_limit, shape_past_limit, fits_shape, some_no_extent, looked, has_too_many_terms}
-use Rattle.job_rules.specs.After.{after, with_extent, with_place, with_format, with_array, kind_of, shape_of, checked_nest, checked_ref, checked_span, checked_guard, narrow_ref}
-use Rattle.job_rules.specs.Accepted.{Has, IsSize, KindFits, ShapeFits, PlaceFits, ArrayFits, IsDenseIn, NestFits, Fits, AcceptedJobsFit}
+use Rattle.job_rules.specs.After.{after, with_extent, with_place, with_format, with_array, kind_of, shape_of, checked_nest, checked_ref, checked_span, checked_guard, narrow_ref, narrow_of, IsNear}
+use Rattle.job_rules.specs.Accepted.{Has, IsSize, KindFits, ShapeFits, PlaceFits, ArrayFits, IsDenseIn, NestFits, Fits, AcceptedJobsFit, ReadFits, LiesAt, SpanFits, refs_of}
 
 not_false : (b : Bool) → not b ≡ false → b ≡ true
 not_false true h = refl
@@ -120,8 +125,27 @@ module _ (old new : Checked) (grows : Grows old new) where
       let f = dense.2 in
       (dense.0, grows.arrays k dense.0 dense.1, (f.0, grows.formats dense.0.format f.0 f.1, f.2))
 
+  read_still : (target ref : Ref) → ReadFits old target ref → ReadFits new target ref
+  read_still target ref fits = ((fits.0.0, grows.arrays ref.array fits.0.0 fits.0.1, tt), elim fits.1 [
+      inl dense ↦ inl (dense_still ref.array dense)
+    | inr lies ↦ inr (record {
+        own = lies.own;
+        other = lies.other;
+        own_is = grows.arrays ref.array lies.own lies.own_is;
+        other_is = grows.arrays target.array lies.other lies.other_is;
+        place = lies.place;
+        same = lies.same
+      })
+  ])
+
   nest_still : (n : Nest) → NestFits old n → NestFits new n
-  nest_still n fits = record { vars = fits.vars; guards = fits.guards; target = dense_still n.target.array fits.target }
+  nest_still n fits = record {
+    vars = fits.vars;
+    spans = fits.spans;
+    guards = fits.guards;
+    target = dense_still n.target.array fits.target;
+    reads = All-map (ReadFits old n.target) (ReadFits new n.target) (refs_of levels n.body) (read_still n.target) fits.reads
+  }
 
 pub there_push : (job : Checked) (known : Known) (name : List ℕ) (what : Named) → AreThere job known → IsThere job what → AreThere job (known ++ (name, what) ∷ [])
 there_push job [] name what there one = (one, tt)
@@ -369,6 +393,76 @@ either_there : (job : Checked) (a b : Option Named) → ((what : Named) → a �
 either_there job None b first second what is = second what is
 either_there job (Some x) b first second what is = first what is
 
+All-mapped : {X Y : Type 0} (P : X → Type 0) (Q : Y → Type 0) (f : X → Y) (xs : List X) → ((x : X) → P x → Q (f x)) → All P xs → All Q (map f xs)
+All-mapped P Q f [] turn all = λ k d within. absurd (omega (arith, within))
+All-mapped P Q f (x ∷ xs) turn all =
+    All-cons Q (f x) (map f xs) (turn x (all 0 x (omega arith))) (All-mapped P Q f xs turn (λ k d within. all (suc k) d (omega (arith, within))))
+
+none_mapped : {X Y : Type 0} (test : Y → Bool) (f : X → Y) (xs : List X) → list_any test (map f xs) ≡ false → All (λ x. test (f x) ≡ false) xs
+none_mapped test f [] none = λ k d within. absurd (omega (arith, within))
+none_mapped test f (x ∷ xs) none =
+    let both = or_parts (test (f x)) (list_any test (map f xs)) none in
+    All-cons (λ y. test (f y) ≡ false) x xs both.0 (none_mapped test f xs both.1)
+
+span_fits : (scope : Scope) (var : RawVar) → IsNear scope var → SpanFits (checked_span scope var)
+unfolding checked_span
+span_fits scope var close = close
+
+-- what the rules say of one reference of a nest
+record Kept (job : Checked) (target ref : WideRef) : Type 0 where
+  kind : ref_of_other_kind ref ≡ false
+  near_home : lies_elsewhere job target ref ≡ false
+  narrow : ref_is_wide ref ≡ false
+
+either_true : (a b : Bool) → (not a && not b) ≡ false → (a ≡ true) ⊎ (b ≡ true)
+either_true true b h = inl refl
+either_true false true h = inr refl
+either_true false false h = absurd cc
+
+not_true : (b : Bool) → b ≡ true → not b ≡ false
+not_true true h = refl
+not_true false h = absurd cc
+
+facts_are : (job : Checked) (n : ℕ) (a : ArrayDecl) → slice_get job.arrays n ≡ Some a → facts_at job n ≡ facts_of job a
+unfolding facts_at
+facts_are job n a there = ap (facts_of job) (get_or-some job.arrays n a no_array there)
+
+chosen_within : (col : Bool) (ref : WideRef) → ref_is_wide ref ≡ false → is_within (if col then ref.col else ref.row) ≡ true
+chosen_within true ref narrow = not_false (is_within ref.col) (or_parts (not (is_within ref.row)) (not (is_within ref.col)) narrow).1
+chosen_within false ref narrow = not_false (is_within ref.row) (or_parts (not (is_within ref.row)) (not (is_within ref.col)) narrow).0
+
+chosen_form : (col : Bool) (row other : Sum) → (if col then narrow_of other else narrow_of row) ≡ narrow_of (if col then other else row)
+chosen_form true row other = refl
+chosen_form false row other = refl
+
+lies_at : (job : Checked) (target ref : WideRef) (t a : ArrayDecl) → slice_get job.arrays (number_of target.array) ≡ Some t → slice_get job.arrays (number_of ref.array) ≡ Some a → ref_is_wide target ≡ false → ref_is_wide ref ≡ false
+    → is_aligned job target ref ≡ true → LiesAt job (narrow_ref target) (narrow_ref ref)
+unfolding narrow_ref
+lies_at job target ref t a target_is ref_is target_narrow ref_narrow aligned =
+    let first = subst (λ f. (f.place == (facts_at job (number_of target.array)).place && same_form (if f.by_col then ref.col else ref.row) (if (facts_at job (number_of target.array)).by_col then target.col else target.row)) ≡ true)
+      (facts_are job (number_of ref.array) a ref_is) aligned in
+    let second = subst (λ f. (a.place == f.place && same_form (if is_col a.axis then ref.col else ref.row) (if f.by_col then target.col else target.row)) ≡ true) (facts_are job (number_of target.array) t target_is) first in
+    let both = and_parts (a.place == t.place) (same_form (if is_col a.axis then ref.col else ref.row) (if is_col t.axis then target.col else target.row)) second in
+    record {
+      own = a;
+      other = t;
+      own_is = ref_is;
+      other_is = target_is;
+      place = grind (arith, nat_tests, both.0);
+      same = chosen_form (is_col a.axis) ref.row ref.col
+        ∙ same_narrow (if is_col a.axis then ref.col else ref.row) (if is_col t.axis then target.col else target.row) (chosen_within (is_col a.axis) ref ref_narrow) (chosen_within (is_col t.axis) target target_narrow) both.1
+        ∙ sym (chosen_form (is_col t.axis) target.row target.col)
+    }
+
+read_fits : (job : Checked) (target ref : WideRef) → All (ArrayFits job) job.arrays → Has job.arrays (number_of target.array) (λ a. Unit {0}) → Has job.arrays (number_of ref.array) (λ a. Unit {0}) → ref_is_wide target ≡ false
+    → Kept job target ref → ReadFits job (narrow_ref target) (narrow_ref ref)
+unfolding narrow_ref
+read_fits job target ref arrays target_has ref_has target_narrow kept =
+    (ref_has, elim (either_true (facts_at job (number_of ref.array)).dense (is_aligned job target ref) kept.near_home) [
+        inl dense ↦ inl (dense_at job (number_of ref.array) ref_has arrays (not_true (facts_at job (number_of ref.array)).dense dense))
+      | inr aligned ↦ inr (lies_at job target ref target_has.0 ref_has.0 target_has.1 ref_has.1 target_narrow kept.narrow aligned)
+    ])
+
 module _ (s : State) (sound : Sound s) where
   there : (name : List ℕ) (what : Named) → lookup name s.names ≡ Some what → IsThere s.job what
   there name what found = found_there s.job name s.names what sound.names found
@@ -416,12 +510,13 @@ module _ (s : State) (sound : Sound s) where
       print_joins s sound _ (dense_at s.job (number_of (lookup name s.names)) has sound.job.arrays (rule_not (form.Print name) none 8 (omega arith)))
 
   step_nest : (nest : RawNest) (line : ℕ) → Unbroken (form.Nest nest) → Sound (after s line (form.Nest nest))
-  unfolding has_other_kind has_sparse_target is_too_wide nest_in ref_of checked_ref narrow_ref
+  unfolding has_other_kind has_sparse_target is_too_wide nest_in ref_of checked_ref narrow_ref reads_elsewhere
   step_nest nest line none =
       let wide = looked s nest in
       let last = or_parts (nat_le 32 (length s.job.nests) || is_too_wide (ranges_of wide) wide) (has_too_many_terms nest) (rule_not (form.Nest nest) none 12 (omega arith)) in
       let narrow = or_parts (nat_le 32 (length s.job.nests)) (is_too_wide (ranges_of wide) wide) last.0 in
-      let five = or_parts _ (list_any ref_is_wide wide.reads) narrow.1 in
+      let narrow_reads = or_parts _ (list_any ref_is_wide wide.reads) narrow.1 in
+      let five = narrow_reads in
       let fourth = or_parts _ (ref_is_wide wide.target) five.0 in
       let third = or_parts _ (list_any guard_is_wide wide.guards) fourth.0 in
       let second = or_parts (nat_lt 4 (length wide.spans) || nat_lt 8 (length wide.guards)) (list_any is_far (ranges_of wide)) third.0 in
@@ -434,11 +529,24 @@ module _ (s : State) (sound : Sound s) where
       let guards = length-map nest.guards (guard_of (scope_of s nest)) in
       let checked_vars = length-map nest.vars (checked_span (scope_of s nest)) in
       let checked_guards = length-map nest.guards (checked_guard (scope_of s nest)) in
+      let scope = scope_of s nest in
+      let raw = reads_of levels nest.body in
+      let kept : All (λ ref. Kept s.job wide.target (ref_of scope ref)) raw = (λ k d within. record {
+        kind = none_mapped ref_of_other_kind (ref_of scope) raw kinds.1 k d within;
+        near_home = none_mapped (lies_elsewhere s.job wide.target) (ref_of scope) raw (rule_not (form.Nest nest) none 11 (omega arith)) k d within;
+        narrow = none_mapped ref_is_wide (ref_of scope) raw narrow_reads.1 k d within
+      }) in
       let few : length wide.spans ≤ 4 = grind (arith, nat_tests, counts.0) in
       let few_guards : length wide.guards ≤ 8 = grind (arith, nat_tests, counts.1) in
       nest_joins s sound (checked_nest (scope_of s nest) line nest) (record {
         vars = omega arith;
+        spans = All-mapped (IsNear scope) SpanFits (checked_span scope) nest.vars (λ var close. span_fits scope var close) (near_bounds scope nest narrow.1);
         guards = omega arith;
+        reads = subst (All (ReadFits s.job (checked_ref scope nest.target))) (sym (refs_are scope levels nest.body))
+          (All-mapped (λ ref. Kept s.job wide.target (ref_of scope ref)) (ReadFits s.job (checked_ref scope nest.target)) (checked_ref scope) raw
+            (λ ref keeps. read_fits s.job wide.target (ref_of scope ref) sound.job.arrays has
+              (array_at_name s.job (named_in scope ref.name) (there_in nest ref.name) (or_parts (not (is_array (named_in scope ref.name))) (ref_fails is_no_count (ref_of scope ref)) keeps.kind).0)
+              fourth.1 keeps) kept);
         target = dense_at s.job (number_of (named_in (scope_of s nest) nest.target.name)) has sound.job.arrays (rule_not (form.Nest nest) none 8 (omega arith))
       }) (below_limit (length s.job.nests) 32 narrow.0)
 

@@ -8,5 +8,6 @@ pub mod NestLemmas
 pub mod WalkLemmas
 pub mod ProductLemmas
 pub mod BoxLemmas
+pub mod FormLemmas
 pub mod AcceptedLemmas
 pub mod AnswerLemmas

@@ -1,9 +1,16 @@
 -- What an accepted job keeps: its numbers name items of its own lists, and its sizes and counts are within their limits.
-use Rattle.std.specs.Prelude.{◌≡◌, ℕ, ◌≤◌, List, Option, Some, true, false, length, slice_get, unsigned_abs}
-use Rattle.std.specs.List.{All}
+use Rattle.std.specs.Prelude.{◌≡◌, ℕ, ◌≤◌, ◌⊎◌, zero, suc, List, [], ◌∷◌, Option, Some, true, false, if◌then◌else◌, length, slice_get, unsigned_abs}
+use Rattle.std.specs.List.{All, flat_map}
+use Rattle.bern_base.specs.Affine.{AffineForm}
 use Rattle.bern_base.specs.declared.job.ArrayDecl.{ArrayDecl}
 use Rattle.bern_base.specs.declared.job.Checked.{Checked}
+use Rattle.bern_base.specs.declared.job.Expr.{Expr, out-Expr}
+use Rattle.bern_base.specs.declared.job.Factor.{Factor}
+use Rattle.bern_base.specs.declared.job.Factor.TheVariants as checked
 use Rattle.bern_base.specs.declared.job.Nest.{Nest}
+use Rattle.bern_base.specs.declared.job.Product.{Product}
+use Rattle.bern_base.specs.declared.job.Ref.{Ref}
+use Rattle.bern_base.specs.declared.job.Span.{Span}
 use Rattle.bern_base.specs.declared.job.PlaceDecl.{PlaceDecl}
 use Rattle.bern_base.specs.declared.job.PlaceKind.{PlaceKind}
 use Rattle.bern_base.specs.declared.job.PlaceKind.TheVariants as dealt
@@ -12,6 +19,7 @@ use Rattle.bern_base.specs.declared.job.Shape.TheVariants as shaped
 use Rattle.bern_base.specs.declared.raw.JobText.{JobText}
 use Rattle.job_rules.specs.State.{shape_dims, is_by_row, is_all_dense, is_col}
 use Rattle.job_rules.specs.First.{Accepts}
+use Rattle.job_rules.specs.Looked.{levels}
 
 -- an item of this number is there, and has this
 abbrev pub Has : {A : Type 0} → List A → ℕ → (A → Type 0) → Type 0
@@ -41,10 +49,46 @@ pub record ArrayFits (job : Checked) (array : ArrayDecl) : Type 0 where
 abbrev pub IsDenseIn : Checked → ℕ → Type 0
 IsDenseIn job number = Has job.arrays number (λ a. Has job.formats a.format (λ f. is_all_dense f.shape ≡ true))
 
+-- the references of an expression, in order; `inner` are those of what stands in parentheses
+module _ (inner : Expr → List Ref) where
+  abbrev pub factor_refs : Factor → List Ref
+  factor_refs (checked.Num n) = []
+  factor_refs (checked.Read ref) = ref ∷ []
+  factor_refs (checked.Group e) = inner e
+
+  abbrev pub product_refs : Product → List Ref
+  product_refs product = flat_map factor_refs product.factors
+
+unfoldable pub refs_of : ℕ → Expr → List Ref
+refs_of zero e = []
+refs_of (suc n) e = flat_map (product_refs (refs_of n)) (out-Expr e).sums
+
+-- the subscript on the axis by which an array is dealt
+abbrev pub split_form : ArrayDecl → Ref → AffineForm
+split_form array ref = if is_col array.axis then ref.col else ref.row
+
+-- a reference lies where the target lies
+pub record LiesAt (job : Checked) (target ref : Ref) : Type 0 where
+  pub own : ArrayDecl
+  pub other : ArrayDecl
+  pub own_is : slice_get job.arrays ref.array ≡ Some own
+  pub other_is : slice_get job.arrays target.array ≡ Some other
+  pub place : own.place ≡ other.place
+  pub same : split_form own ref ≡ split_form other target
+
+-- what a nest reads is there, and is dense or lies where the target lies
+abbrev pub ReadFits : Checked → Ref → Ref → Type 0
+ReadFits job target ref = Has job.arrays ref.array (λ a. Unit {0}) × (IsDenseIn job ref.array ⊎ LiesAt job target ref)
+
+abbrev pub SpanFits : Span → Type 0
+SpanFits span = (unsigned_abs span.lo ≤ 4194304) × (unsigned_abs span.hi ≤ 4194304)
+
 pub record NestFits (job : Checked) (nest : Nest) : Type 0 where
   pub vars : length nest.vars ≤ 4
+  pub spans : All SpanFits nest.vars
   pub guards : length nest.guards ≤ 8
   pub target : IsDenseIn job nest.target.array
+  pub reads : All (ReadFits job nest.target) (refs_of levels nest.body)
 
 pub record Fits (job : Checked) : Type 0 where
   pub extent_count : length job.extents ≤ 32

@@ -1,0 +1,107 @@
+-- Sums of one form, and the references of an expression.
+use Rattle.std.proofs.Common.{◌≡◌, ◌∙◌, ◌⊎◌, inl, inr, ℕ, zero, suc, Bool, true, false, ◌&&◌, ◌==◌, if◌then◌else◌, List, [], ◌∷◌, ◌++◌, Option, Some, None, ℤ, pos, ◌+ℤ◌, map, refl, sym, ap, subst, arith}
+use Rattle.std.specs.List.{fold, list_all, flat_map}
+use Rattle.std.specs.Ordering.{int_eq}
+use Rattle.std.proofs.lemmas.Bool.{and_parts}
+use Rattle.std.proofs.lemmas.Bool.Decides.{nat_tests, Decides-int_eq}
+use Rattle.std.proofs.lemmas.List.{map-append}
+use Rattle.bern_base.specs.declared.job.Expr.{Expr, out-Expr, roll-Expr, out-roll-Expr}
+use Rattle.bern_base.specs.declared.job.Product.{Product}
+use Rattle.bern_base.specs.declared.job.Factor.TheVariants as checked
+use Rattle.bern_base.specs.declared.job.Ref.{Ref}
+use Rattle.bern_base.specs.declared.raw.RawExpr.{RawExpr, out-RawExpr}
+use Rattle.bern_base.specs.declared.raw.RawFactor.{RawFactor}
+use Rattle.bern_base.specs.declared.raw.RawFactor.TheVariants as factor
+use Rattle.bern_base.specs.declared.raw.RawProduct.{RawProduct}
+use Rattle.bern_base.specs.declared.raw.RawRef.{RawRef}
+use Rattle.job_rules.specs.declared.items.Item.{Item}
+use Rattle.job_rules.specs.Sums.{Sum, variable_of, coefficient_part, coefficient_of, constant_of, agrees_at, same_form, is_within, affine_of}
+use Rattle.job_rules.specs.Looked.{Scope, reads_of, product_reads, factor_reads}
+use Rattle.job_rules.specs.After.{narrow_of, checked_ref, checked_factor, checked_product, checked_expr}
+use Rattle.job_rules.specs.Accepted.{refs_of, product_refs, factor_refs}
+
+abbrev Agree : Sum → Sum → ℕ → Type 0
+Agree a b v = int_eq (coefficient_of v a) (coefficient_of v b) ≡ true
+
+-- an item that is no multiple of v, or one that vouches for v
+item_agrees : (a b : Sum) (v : ℕ) (item : Item) (o : Option ℕ) → variable_of item.meaning ≡ o → agrees_at a b item ≡ true → (coefficient_part v item ≡ pos 0) ⊎ Agree a b v
+item_agrees a b v item None is agrees = inl (rw (is, coefficient_part) refl)
+item_agrees a b v item (Some w) is agrees = by (w == v) refl
+  where
+    same : int_eq (coefficient_of w a) (coefficient_of w b) ≡ true
+    same = rw (is, agrees_at) at agrees
+    by : (t : Bool) → (w == v) ≡ t → (coefficient_part v item ≡ pos 0) ⊎ Agree a b v
+    by true e = let at : w ≡ v = grind (arith, nat_tests) in inr (subst (λ k. Agree a b k) at same)
+    by false e = inl (rw (is, coefficient_part, e) refl)
+
+agree_from : (a b items : Sum) (v : ℕ) → list_all (agrees_at a b) items ≡ true → (fold (λ total item. total +ℤ coefficient_part v item) (pos 0) items ≡ pos 0) ⊎ Agree a b v
+agree_from a b [] v agrees = inl refl
+agree_from a b (item ∷ items) v agrees =
+    let both = and_parts (agrees_at a b item) (list_all (agrees_at a b) items) agrees in
+    elim (item_agrees a b v item (variable_of item.meaning) refl both.0) [
+        inr agree ↦ inr agree
+      | inl none ↦ elim (agree_from a b items v both.1) [
+            inr agree ↦ inr agree
+          | inl rest ↦ inl (ap (λ start. fold (λ total i. total +ℤ coefficient_part v i) (pos 0 +ℤ start) items) none ∙ rest)
+        ]
+    ]
+
+-- sums of one form have the same constant and the same coefficients
+same_coefficient : (a b : Sum) (v : ℕ) → same_form a b ≡ true → coefficient_of v a ≡ coefficient_of v b
+unfolding same_form coefficient_of
+same_coefficient a b v same =
+    let outer = and_parts (int_eq (constant_of a) (constant_of b) && list_all (agrees_at a b) a) (list_all (agrees_at a b) b) same in
+    let inner = and_parts (int_eq (constant_of a) (constant_of b)) (list_all (agrees_at a b) a) outer.0 in
+    elim (agree_from a b a v inner.1) [
+        inr agree ↦ (Decides-int_eq (coefficient_of v a) (coefficient_of v b)).0 agree
+      | inl none ↦ elim (agree_from a b b v outer.1) [
+            inr agree ↦ (Decides-int_eq (coefficient_of v a) (coefficient_of v b)).0 agree
+          | inl zero_too ↦ none ∙ sym zero_too
+        ]
+    ]
+
+same_constant : (a b : Sum) → same_form a b ≡ true → constant_of a ≡ constant_of b
+unfolding same_form
+same_constant a b same =
+    let outer = and_parts (int_eq (constant_of a) (constant_of b) && list_all (agrees_at a b) a) (list_all (agrees_at a b) b) same in
+    let inner = and_parts (int_eq (constant_of a) (constant_of b)) (list_all (agrees_at a b) a) outer.0 in
+    (Decides-int_eq (constant_of a) (constant_of b)).0 inner.0
+
+pub same_narrow : (a b : Sum) → is_within a ≡ true → is_within b ≡ true → same_form a b ≡ true → narrow_of a ≡ narrow_of b
+unfolding narrow_of
+same_narrow a b first second same =
+    rw (first, second) (λ i. record {
+      c0 = same_constant a b same i;
+      coef = same_coefficient a b 0 same i ∷ same_coefficient a b 1 same i ∷ same_coefficient a b 2 same i ∷ same_coefficient a b 3 same i ∷ []
+    })
+
+-- the references of an expression with numbers are its references with numbers
+map-flat : {A B C : Type 0} (h : B → C) (f : A → List B) (g : A → List C) → ((x : A) → g x ≡ map h (f x)) → (xs : List A) → flat_map g xs ≡ map h (flat_map f xs)
+map-flat h f g each [] = refl
+map-flat h f g each (x ∷ xs) = ap (λ l. l ++ flat_map g xs) (each x) ∙ ap (λ l. map h (f x) ++ l) (map-flat h f g each xs) ∙ sym (map-append h (f x) (flat_map f xs))
+
+flat-map : {A B C : Type 0} (k : A → B) (g : B → List C) (xs : List A) → flat_map g (map k xs) ≡ flat_map (λ x. g (k x)) xs
+flat-map k g [] = refl
+flat-map k g (x ∷ xs) = ap (λ l. g (k x) ++ l) (flat-map k g xs)
+
+module _ (scope : Scope) where
+  factor_refs_are : (n : ℕ) → ((e : RawExpr) → refs_of n (checked_expr scope n e) ≡ map (checked_ref scope) (reads_of n e)) → (x : RawFactor)
+      → factor_refs (refs_of n) (checked_factor scope (checked_expr scope n) x) ≡ map (checked_ref scope) (factor_reads (reads_of n) x)
+  factor_refs_are n inner (factor.Num number) = refl
+  factor_refs_are n inner (factor.Read ref) = refl
+  factor_refs_are n inner (factor.Group e) = inner e
+
+  product_refs_are : (n : ℕ) → ((e : RawExpr) → refs_of n (checked_expr scope n e) ≡ map (checked_ref scope) (reads_of n e)) → (p : RawProduct)
+      → product_refs (refs_of n) (checked_product scope (checked_expr scope n) p) ≡ map (checked_ref scope) (product_reads (reads_of n) p)
+  unfolding checked_product
+  product_refs_are n inner p = flat-map (checked_factor scope (checked_expr scope n)) (factor_refs (refs_of n)) p.factors
+      ∙ map-flat (checked_ref scope) (factor_reads (reads_of n)) (λ x. factor_refs (refs_of n) (checked_factor scope (checked_expr scope n) x)) (factor_refs_are n inner) p.factors
+
+  pub refs_are : (n : ℕ) (e : RawExpr) → refs_of n (checked_expr scope n e) ≡ map (checked_ref scope) (reads_of n e)
+  unfolding refs_of reads_of checked_expr
+  refs_are zero e = refl
+  refs_are (suc n) e =
+      let sums = map (checked_product scope (checked_expr scope n)) (out-RawExpr e).sums in
+      ap (λ x. flat_map (product_refs (refs_of n)) x.sums) (out-roll-Expr (record { sums = sums }))
+      ∙ flat-map (checked_product scope (checked_expr scope n)) (product_refs (refs_of n)) (out-RawExpr e).sums
+      ∙ map-flat (checked_ref scope) (product_reads (reads_of n)) (λ p. product_refs (refs_of n) (checked_product scope (checked_expr scope n) p)) (product_refs_are n (refs_are n)) (out-RawExpr e).sums
