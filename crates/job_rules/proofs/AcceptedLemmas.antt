@@ -1,6 +1,6 @@
 -- An accepted job fits: each line keeps that.
-use Rattle.std.proofs.Common.{◌≡◌, ◌∙◌, ◌⊎◌, inl, inr, ℕ, zero, suc, ◌+◌, ◌<◌, ◌≤◌, Bool, true, false, not, ◌||◌, ◌&&◌, ◌==◌, nat_le, nat_lt, nat_eq, cond, if◌then◌else◌, ℤ, List, [], ◌∷◌, ◌++◌, map, Option, Some, None, length, length-append, get_or, refl, sym, ap, subst, arith}
-use Rattle.std.specs.Prelude.{slice_get, is_some, is_none, unsigned_abs}
+use Rattle.std.proofs.Common.{◌≡◌, ◌∙◌, ◌⊎◌, inl, inr, ℕ, zero, suc, ◌<◌, ◌≤◌, Bool, true, false, not, ◌||◌, ◌&&◌, ◌==◌, nat_le, nat_lt, nat_eq, cond, if◌then◌else◌, ℤ, List, [], ◌∷◌, ◌++◌, map, Option, Some, None, length, get_or, refl, sym, ap, subst, arith}
+use Rattle.std.specs.Prelude.{slice_get, unsigned_abs}
 use Rattle.std.specs.List.{All, list_any, find, fold}
 use Rattle.std.specs.Str.{bytes_eq}
 use Rattle.std.specs.Option.{option_map_or, option_or}
@@ -17,21 +17,25 @@ use Rattle.bern_base.specs.declared.job.PlaceDecl.{PlaceDecl}
 use Rattle.bern_base.specs.declared.raw.Form.{Form}
 use Rattle.bern_base.specs.declared.raw.Form.TheVariants as form
 use Rattle.bern_base.specs.declared.raw.JobLine.{JobLine}
-use Rattle.bern_base.specs.declared.refusal.Rule.{Rule}
 use Rattle.bern_base.specs.declared.refusal.Rule.TheVariants as r
 use Rattle.job_rules.specs.declared.names.Named.{Named}
 use Rattle.job_rules.specs.declared.names.Named.TheVariants as named
 use Rattle.job_rules.specs.Known.{Known, lookup}
 use Rattle.job_rules.specs.State.{State, start, is_extent, is_place, is_format, is_array, number_of, shape_at, is_all_dense, shape_dims, is_by_row, is_col, is_known}
-use Rattle.job_rules.specs.Nests.{facts_at, no_array, has_other_kind, has_sparse_target, is_too_wide, ranges_of, ref_is_wide, guard_is_wide, is_far, ref_of_other_kind, ref_fails, is_no_count, facts_of, lies_elsewhere, is_aligned, reads_elsewhere}
-use Rattle.job_rules.specs.Looked.{scope_of, named_in, variables_of, with_variable, nest_in, ref_of, span_of, guard_of, Scope, levels, reads_of}
+use Rattle.job_rules.specs.Nests.{facts_at, no_array, has_other_kind, has_sparse_target, is_too_wide, ranges_of, ref_is_wide, guard_is_wide, is_far, ref_of_other_kind, ref_fails, is_no_count, facts_of, lies_elsewhere, is_aligned, reads_elsewhere, leaves_array, leaves_box, leaves_extent, is_box_empty, range_of}
+use Rattle.job_rules.specs.Looked.{scope_of, named_in, variables_of, with_variable, nest_in, ref_of, span_of, guard_of, Scope, levels, reads_of, sum_of, subscript}
 use Rattle.job_rules.specs.First.{AcceptsFrom}
 use Rattle.job_rules.proofs.ListLemmas.{none_all}
 use Rattle.job_rules.proofs.FormLemmas.{refs_are, same_narrow}
 use Rattle.job_rules.proofs.NestLemmas.{near_bounds}
+use Rattle.job_rules.proofs.InsideLemmas.{AreBelow, below_push, IsNarrowScope, narrow_scope, stays_inside, box_some}
+use Rattle.job_rules.specs.Points.{Point, InBox}
+use Rattle.bern_base.specs.declared.job.Span.{Span}
+use Rattle.bern_base.specs.declared.raw.RawRef.{RawRef}
+use Rattle.job_rules.specs.declared.ranges.Range.{Range}
 use Rattle.bern_base.specs.declared.job.Ref.{Ref}
 use Rattle.job_rules.specs.declared.wide.WideRef.{WideRef}
-use Rattle.job_rules.specs.Sums.{Sum, is_within, same_form}
+use Rattle.job_rules.specs.Sums.{Sum, is_within, same_form, constant_of}
 use Rattle.bern_base.specs.declared.axes.Axis.{Axis}
 use Rattle.bern_base.specs.declared.job.Shape.{Shape}
 use Rattle.bern_base.specs.declared.raw.RawKind.{RawKind}
@@ -43,7 +47,7 @@ use Rattle.bern_base.specs.declared.raw.RawVar.{RawVar}
 use Rattle.bern_base.specs.declared.job.Shape.TheVariants as shaped
 use Rattle.job_rules.specs.Rules.{broken_rule, breaks, table, is_no_size, kind_past_limit, shape_past_limit, fits_shape, some_no_extent, looked, has_too_many_terms}
 use Rattle.job_rules.specs.After.{after, with_extent, with_place, with_format, with_array, kind_of, shape_of, checked_nest, checked_ref, checked_span, checked_guard, narrow_ref, narrow_of, IsNear}
-use Rattle.job_rules.specs.Accepted.{Has, IsSize, KindFits, ShapeFits, PlaceFits, ArrayFits, IsDenseIn, NestFits, Fits, AcceptedJobsFit, ReadFits, LiesAt, SpanFits, refs_of}
+use Rattle.job_rules.specs.Accepted.{Has, IsSize, KindFits, ShapeFits, PlaceFits, ArrayFits, IsDenseIn, NestFits, Fits, AcceptedJobsFit, ReadFits, LiesAt, SpanFits, refs_of, StaysInside, InSpans, IsIndex, form_value, span_values}
 
 not_false : (b : Bool) → not b ≡ false → b ≡ true
 not_false true h = refl
@@ -117,7 +121,7 @@ module _ (old new : Checked) (grows : Grows old new) where
   array_still : (a : ArrayDecl) → ArrayFits old a → ArrayFits new a
   array_still a fits = record {
     format = (fits.format.0, grows.formats a.format fits.format.0 fits.format.1, fits.format.2);
-    place = (fits.place.0, grows.places a.place fits.place.0 fits.place.1, tt)
+    place = (fits.place.0, grows.places a.place fits.place.0 fits.place.1, tt);
   }
 
   dense_still : (k : ℕ) → IsDenseIn old k → IsDenseIn new k
@@ -126,17 +130,23 @@ module _ (old new : Checked) (grows : Grows old new) where
       (dense.0, grows.arrays k dense.0 dense.1, (f.0, grows.formats dense.0.format f.0 f.1, f.2))
 
   read_still : (target ref : Ref) → ReadFits old target ref → ReadFits new target ref
-  read_still target ref fits = ((fits.0.0, grows.arrays ref.array fits.0.0 fits.0.1, tt), elim fits.1 [
-      inl dense ↦ inl (dense_still ref.array dense)
-    | inr lies ↦ inr (record {
+  read_still target ref fits = (
+    (fits.0.0, grows.arrays ref.array fits.0.0 fits.0.1, tt),
+    elim fits.1 [
+      | inl dense ↦ inl (dense_still ref.array dense)
+      | inr lies ↦ inr (record {
         own = lies.own;
         other = lies.other;
         own_is = grows.arrays ref.array lies.own lies.own_is;
         other_is = grows.arrays target.array lies.other lies.other_is;
         place = lies.place;
-        same = lies.same
+        same = lies.same;
       })
-  ])
+    ],
+  )
+
+  inside_still : (spans : List Span) (ref : Ref) → StaysInside old spans ref → StaysInside new spans ref
+  inside_still spans ref stays = λ p within. let h = stays p within in (h.0, grows.arrays ref.array h.0 h.1, h.2)
 
   nest_still : (n : Nest) → NestFits old n → NestFits new n
   nest_still n fits = record {
@@ -144,7 +154,9 @@ module _ (old new : Checked) (grows : Grows old new) where
     spans = fits.spans;
     guards = fits.guards;
     target = dense_still n.target.array fits.target;
-    reads = All-map (ReadFits old n.target) (ReadFits new n.target) (refs_of levels n.body) (read_still n.target) fits.reads
+    target_inside = inside_still n.vars n.target fits.target_inside;
+    reads = All-map (ReadFits old n.target) (ReadFits new n.target) (refs_of levels n.body) (read_still n.target) fits.reads;
+    reads_inside = All-map (StaysInside old n.vars) (StaysInside new n.vars) (refs_of levels n.body) (inside_still n.vars) fits.reads_inside;
   }
 
 pub there_push : (job : Checked) (known : Known) (name : List ℕ) (what : Named) → AreThere job known → IsThere job what → AreThere job (known ++ (name, what) ∷ [])
@@ -190,11 +202,12 @@ module _ (job : Checked) where
       let fits = all_of (ArrayFits job) job.arrays n a arrays has.1 in
       let f = fits.format.0 in
       let same : is_all_dense (shape_at job.formats (get_or job.arrays n no_array).format) ≡ is_all_dense f.shape =
-        ap (λ x. is_all_dense (shape_at job.formats x.format)) (get_or-some job.arrays n a no_array has.1) ∙ ap (λ o. is_all_dense (option_map_or (λ d. d.shape) o shaped.DenseOne)) fits.format.1 in
+      ap (λ x. is_all_dense (shape_at job.formats x.format)) (get_or-some job.arrays n a no_array has.1) ∙ ap (λ o. is_all_dense (option_map_or (λ d. d.shape) o shaped.DenseOne)) fits.format.1 in
       (a, has.1, (f, fits.format.1, sym same ∙ not_false (is_all_dense (shape_at job.formats (get_or job.arrays n no_array).format)) dense))
 
 record Sound (s : State) : Type 0 where
   names : AreThere s.job s.names
+  plain : AreBelow 0 s.names
   job : Fits s.job
 
 size_of_no : (n : ℕ) → is_no_size n ≡ false → IsSize n
@@ -214,6 +227,7 @@ module _ (s : State) (name : List ℕ) (sound : Sound s) where
       let j = sound.job in
       record {
         names = there_push new s.names name (named.Extent (length s.job.extents)) (all_there_still s.job new grows s.names sound.names) (d, get-last s.job.extents d, tt);
+        plain = below_push 0 s.names name (named.Extent (length s.job.extents)) sound.plain tt;
         job = record {
           extent_count = omega (arith, length_push s.job.extents d);
           place_count = j.place_count;
@@ -225,8 +239,8 @@ module _ (s : State) (name : List ℕ) (sound : Sound s) where
           formats = j.formats;
           arrays = All-map (ArrayFits s.job) (ArrayFits new) s.job.arrays (array_still s.job new grows) j.arrays;
           nests = All-map (NestFits s.job) (NestFits new) s.job.nests (nest_still s.job new grows) j.nests;
-          prints = All-map (IsDenseIn s.job) (IsDenseIn new) s.job.prints (dense_still s.job new grows) j.prints
-        }
+          prints = All-map (IsDenseIn s.job) (IsDenseIn new) s.job.prints (dense_still s.job new grows) j.prints;
+        };
       }
 
   place_joins : (d : PlaceDecl) → d.name ≡ name → PlaceFits s.job d → length s.job.places < 16 → Sound (with_place s d)
@@ -236,6 +250,7 @@ module _ (s : State) (name : List ℕ) (sound : Sound s) where
       let j = sound.job in
       record {
         names = there_push new s.names d.name (named.Place (length s.job.places)) (all_there_still s.job new grows s.names sound.names) (d, get-last s.job.places d, tt);
+        plain = below_push 0 s.names d.name (named.Place (length s.job.places)) sound.plain tt;
         job = record {
           extent_count = j.extent_count;
           place_count = omega (arith, length_push s.job.places d);
@@ -247,8 +262,8 @@ module _ (s : State) (name : List ℕ) (sound : Sound s) where
           formats = j.formats;
           arrays = All-map (ArrayFits s.job) (ArrayFits new) s.job.arrays (array_still s.job new grows) j.arrays;
           nests = All-map (NestFits s.job) (NestFits new) s.job.nests (nest_still s.job new grows) j.nests;
-          prints = All-map (IsDenseIn s.job) (IsDenseIn new) s.job.prints (dense_still s.job new grows) j.prints
-        }
+          prints = All-map (IsDenseIn s.job) (IsDenseIn new) s.job.prints (dense_still s.job new grows) j.prints;
+        };
       }
 
   format_joins : (d : FormatDecl) → ShapeFits d.shape → length s.job.formats < 32 → Sound (with_format s d)
@@ -258,6 +273,7 @@ module _ (s : State) (name : List ℕ) (sound : Sound s) where
       let j = sound.job in
       record {
         names = there_push new s.names d.name (named.Format (length s.job.formats)) (all_there_still s.job new grows s.names sound.names) (d, get-last s.job.formats d, tt);
+        plain = below_push 0 s.names d.name (named.Format (length s.job.formats)) sound.plain tt;
         job = record {
           extent_count = j.extent_count;
           place_count = j.place_count;
@@ -269,8 +285,8 @@ module _ (s : State) (name : List ℕ) (sound : Sound s) where
           formats = All-push (λ f. ShapeFits f.shape) s.job.formats d j.formats fits;
           arrays = All-map (ArrayFits s.job) (ArrayFits new) s.job.arrays (array_still s.job new grows) j.arrays;
           nests = All-map (NestFits s.job) (NestFits new) s.job.nests (nest_still s.job new grows) j.nests;
-          prints = All-map (IsDenseIn s.job) (IsDenseIn new) s.job.prints (dense_still s.job new grows) j.prints
-        }
+          prints = All-map (IsDenseIn s.job) (IsDenseIn new) s.job.prints (dense_still s.job new grows) j.prints;
+        };
       }
 
   array_joins : (d : ArrayDecl) → ArrayFits s.job d → length s.job.arrays < 16 → Sound (with_array s d)
@@ -280,6 +296,7 @@ module _ (s : State) (name : List ℕ) (sound : Sound s) where
       let j = sound.job in
       record {
         names = there_push new s.names d.name (named.Array (length s.job.arrays)) (all_there_still s.job new grows s.names sound.names) (d, get-last s.job.arrays d, tt);
+        plain = below_push 0 s.names d.name (named.Array (length s.job.arrays)) sound.plain tt;
         job = record {
           extent_count = j.extent_count;
           place_count = j.place_count;
@@ -291,8 +308,8 @@ module _ (s : State) (name : List ℕ) (sound : Sound s) where
           formats = j.formats;
           arrays = All-push (ArrayFits new) s.job.arrays d (All-map (ArrayFits s.job) (ArrayFits new) s.job.arrays (array_still s.job new grows) j.arrays) (array_still s.job new grows d fits);
           nests = All-map (NestFits s.job) (NestFits new) s.job.nests (nest_still s.job new grows) j.nests;
-          prints = All-map (IsDenseIn s.job) (IsDenseIn new) s.job.prints (dense_still s.job new grows) j.prints
-        }
+          prints = All-map (IsDenseIn s.job) (IsDenseIn new) s.job.prints (dense_still s.job new grows) j.prints;
+        };
       }
 
 -- a nest or a print changes no declaration
@@ -307,6 +324,7 @@ module _ (s : State) (sound : Sound s) where
       let j = sound.job in
       record {
         names = same_names new grows;
+        plain = sound.plain;
         job = record {
           extent_count = j.extent_count;
           place_count = j.place_count;
@@ -318,8 +336,8 @@ module _ (s : State) (sound : Sound s) where
           formats = j.formats;
           arrays = All-map (ArrayFits s.job) (ArrayFits new) s.job.arrays (array_still s.job new grows) j.arrays;
           nests = All-push (NestFits new) s.job.nests d (All-map (NestFits s.job) (NestFits new) s.job.nests (nest_still s.job new grows) j.nests) (nest_still s.job new grows d fits);
-          prints = All-map (IsDenseIn s.job) (IsDenseIn new) s.job.prints (dense_still s.job new grows) j.prints
-        }
+          prints = All-map (IsDenseIn s.job) (IsDenseIn new) s.job.prints (dense_still s.job new grows) j.prints;
+        };
       }
 
   print_joins : (k : ℕ) → IsDenseIn s.job k → Sound (record { names = s.names; job = record s.job { prints = s.job.prints ++ k ∷ [] } })
@@ -329,6 +347,7 @@ module _ (s : State) (sound : Sound s) where
       let j = sound.job in
       record {
         names = same_names new grows;
+        plain = sound.plain;
         job = record {
           extent_count = j.extent_count;
           place_count = j.place_count;
@@ -340,8 +359,8 @@ module _ (s : State) (sound : Sound s) where
           formats = j.formats;
           arrays = All-map (ArrayFits s.job) (ArrayFits new) s.job.arrays (array_still s.job new grows) j.arrays;
           nests = All-map (NestFits s.job) (NestFits new) s.job.nests (nest_still s.job new grows) j.nests;
-          prints = All-push (IsDenseIn new) s.job.prints k (All-map (IsDenseIn s.job) (IsDenseIn new) s.job.prints (dense_still s.job new grows) j.prints) (dense_still s.job new grows k dense)
-        }
+          prints = All-push (IsDenseIn new) s.job.prints k (All-map (IsDenseIn s.job) (IsDenseIn new) s.job.prints (dense_still s.job new grows) j.prints) (dense_still s.job new grows k dense);
+        };
       }
 
 kind_fits : (kind : RawKind) → kind_past_limit kind ≡ false → KindFits (kind_of kind)
@@ -404,6 +423,12 @@ none_mapped test f (x ∷ xs) none =
     let both = or_parts (test (f x)) (list_any test (map f xs)) none in
     All-cons (λ y. test (f y) ≡ false) x xs both.0 (none_mapped test f xs both.1)
 
+-- a nest's ranges are the values of its variables
+ranges_are : (scope : Scope) (vars : List RawVar) → map range_of (map (span_of scope) vars) ≡ map span_values (map (checked_span scope) vars)
+unfolding span_of checked_span
+ranges_are scope [] = refl
+ranges_are scope (var ∷ vars) = ap (λ rest. (record { lo = constant_of (sum_of scope var.lo); hi = constant_of (sum_of scope var.hi) }) ∷ rest) (ranges_are scope vars)
+
 span_fits : (scope : Scope) (var : RawVar) → IsNear scope var → SpanFits (checked_span scope var)
 unfolding checked_span
 span_fits scope var close = close
@@ -440,7 +465,7 @@ lies_at : (job : Checked) (target ref : WideRef) (t a : ArrayDecl) → slice_get
 unfolding narrow_ref
 lies_at job target ref t a target_is ref_is target_narrow ref_narrow aligned =
     let first = subst (λ f. (f.place == (facts_at job (number_of target.array)).place && same_form (if f.by_col then ref.col else ref.row) (if (facts_at job (number_of target.array)).by_col then target.col else target.row)) ≡ true)
-      (facts_are job (number_of ref.array) a ref_is) aligned in
+    (facts_are job (number_of ref.array) a ref_is) aligned in
     let second = subst (λ f. (a.place == f.place && same_form (if is_col a.axis then ref.col else ref.row) (if f.by_col then target.col else target.row)) ≡ true) (facts_are job (number_of target.array) t target_is) first in
     let both = and_parts (a.place == t.place) (same_form (if is_col a.axis then ref.col else ref.row) (if is_col t.axis then target.col else target.row)) second in
     record {
@@ -450,18 +475,40 @@ lies_at job target ref t a target_is ref_is target_narrow ref_narrow aligned =
       other_is = target_is;
       place = grind (arith, nat_tests, both.0);
       same = chosen_form (is_col a.axis) ref.row ref.col
-        ∙ same_narrow (if is_col a.axis then ref.col else ref.row) (if is_col t.axis then target.col else target.row) (chosen_within (is_col a.axis) ref ref_narrow) (chosen_within (is_col t.axis) target target_narrow) both.1
-        ∙ sym (chosen_form (is_col t.axis) target.row target.col)
+          ∙ same_narrow (if is_col a.axis then ref.col else ref.row) (if is_col t.axis then target.col else target.row) (chosen_within (is_col a.axis) ref ref_narrow) (chosen_within (is_col t.axis) target target_narrow) both.1
+          ∙ sym (chosen_form (is_col t.axis) target.row target.col);
     }
 
 read_fits : (job : Checked) (target ref : WideRef) → All (ArrayFits job) job.arrays → Has job.arrays (number_of target.array) (λ a. Unit {0}) → Has job.arrays (number_of ref.array) (λ a. Unit {0}) → ref_is_wide target ≡ false
     → Kept job target ref → ReadFits job (narrow_ref target) (narrow_ref ref)
 unfolding narrow_ref
-read_fits job target ref arrays target_has ref_has target_narrow kept =
-    (ref_has, elim (either_true (facts_at job (number_of ref.array)).dense (is_aligned job target ref) kept.near_home) [
-        inl dense ↦ inl (dense_at job (number_of ref.array) ref_has arrays (not_true (facts_at job (number_of ref.array)).dense dense))
-      | inr aligned ↦ inr (lies_at job target ref target_has.0 ref_has.0 target_has.1 ref_has.1 target_narrow kept.narrow aligned)
-    ])
+read_fits job target ref arrays target_has ref_has target_narrow kept = (
+  ref_has,
+  elim (either_true (facts_at job (number_of ref.array)).dense (is_aligned job target ref) kept.near_home) [
+    | inl dense ↦ inl (dense_at job (number_of ref.array) ref_has arrays (not_true (facts_at job (number_of ref.array)).dense dense))
+    | inr aligned ↦ inr (lies_at job target ref target_has.0 ref_has.0 target_has.1 ref_has.1 target_narrow kept.narrow aligned)
+  ],
+)
+
+leaves_none : (job : Checked) (ranges : List Range) (target : WideRef) (reads : List WideRef) (p : Point) → InBox ranges p → (not (is_box_empty ranges) && (leaves_array job ranges target || list_any (leaves_array job ranges) reads)) ≡ false
+    → (leaves_array job ranges target ≡ false) × (list_any (leaves_array job ranges) reads ≡ false)
+leaves_none job ranges target reads p inside none =
+    let some : not (is_box_empty ranges) ≡ true = ap not (box_some ranges p inside) in
+    or_parts (leaves_array job ranges target) (list_any (leaves_array job ranges) reads) (sym (ap (λ b. b && (leaves_array job ranges target || list_any (leaves_array job ranges) reads)) some) ∙ none)
+
+-- one reference, at one point
+ref_inside : (job : Checked) (scope : Scope) (ranges : List Range) (ref : RawRef) (p : Point) → IsNarrowScope scope → InBox ranges p → Has job.arrays (number_of (ref_of scope ref).array) (λ a. Unit {0}) → ref_is_wide (ref_of scope ref) ≡ false
+    → leaves_array job ranges (ref_of scope ref) ≡ false → Has job.arrays (checked_ref scope ref).array (λ a. IsIndex a.rows (form_value p (checked_ref scope ref).row) × IsIndex a.cols (form_value p (checked_ref scope ref).col))
+unfolding checked_ref narrow_ref ref_of
+ref_inside job scope ranges ref p narrow inside has fits stays =
+    let wide = ref_of scope ref in
+    let a = has.0 in
+    let known = facts_are job (number_of wide.array) a has.1 in
+    let close = subst (λ f. (leaves_extent ranges f.rows wide.row || leaves_extent ranges f.cols wide.col) ≡ false) known stays in
+    let both = or_parts (leaves_extent ranges a.rows wide.row) (leaves_extent ranges a.cols wide.col) close in
+    let row = not_false (is_within wide.row) (or_parts (not (is_within wide.row)) (not (is_within wide.col)) fits).0 in
+    let col = not_false (is_within wide.col) (or_parts (not (is_within wide.row)) (not (is_within wide.col)) fits).1 in
+    (a, has.1, (stays_inside scope (subscript ref 0) ranges a.rows p narrow row inside both.0, stays_inside scope (subscript ref 1) ranges a.cols p narrow col inside both.1))
 
 module _ (s : State) (sound : Sound s) where
   there : (name : List ℕ) (what : Named) → lookup name s.names ≡ Some what → IsThere s.job what
@@ -510,7 +557,7 @@ module _ (s : State) (sound : Sound s) where
       print_joins s sound _ (dense_at s.job (number_of (lookup name s.names)) has sound.job.arrays (rule_not (form.Print name) none 8 (omega arith)))
 
   step_nest : (nest : RawNest) (line : ℕ) → Unbroken (form.Nest nest) → Sound (after s line (form.Nest nest))
-  unfolding has_other_kind has_sparse_target is_too_wide nest_in ref_of checked_ref narrow_ref reads_elsewhere
+  unfolding has_other_kind has_sparse_target is_too_wide nest_in ref_of checked_ref narrow_ref reads_elsewhere leaves_box ranges_of
   step_nest nest line none =
       let wide = looked s nest in
       let last = or_parts (nat_le 32 (length s.job.nests) || is_too_wide (ranges_of wide) wide) (has_too_many_terms nest) (rule_not (form.Nest nest) none 12 (omega arith)) in
@@ -534,20 +581,32 @@ module _ (s : State) (sound : Sound s) where
       let kept : All (λ ref. Kept s.job wide.target (ref_of scope ref)) raw = (λ k d within. record {
         kind = none_mapped ref_of_other_kind (ref_of scope) raw kinds.1 k d within;
         near_home = none_mapped (lies_elsewhere s.job wide.target) (ref_of scope) raw (rule_not (form.Nest nest) none 11 (omega arith)) k d within;
-        narrow = none_mapped ref_is_wide (ref_of scope) raw narrow_reads.1 k d within
+        narrow = none_mapped ref_is_wide (ref_of scope) raw narrow_reads.1 k d within;
       }) in
+      let few_vars : length wide.spans ≤ 4 = grind (arith, nat_tests, counts.0) in
+      let scope_narrow = narrow_scope s.names nest.vars s.job.extents sound.plain (omega (arith, vars, few_vars)) in
+      let in_box : (p : Point) → InSpans (map (checked_span scope) nest.vars) p → InBox (ranges_of wide) p = (λ p inside. subst (λ r. InBox r p) (sym (ranges_are scope nest.vars)) inside) in
+      let boxed = rule_not (form.Nest nest) none 7 (omega arith) in
+      let Rests : WideRef → Type 0 = (λ ref. Kept s.job wide.target ref × ((p : Point) → InBox (ranges_of wide) p → leaves_array s.job (ranges_of wide) ref ≡ false)) in
+      let rested : All (λ ref. Rests (ref_of scope ref)) raw = (λ k d within. (kept k d within, λ p inside. none_mapped (leaves_array s.job (ranges_of wide)) (ref_of scope) raw (leaves_none s.job (ranges_of wide) wide.target wide.reads p inside boxed).1 k d within)) in
       let few : length wide.spans ≤ 4 = grind (arith, nat_tests, counts.0) in
       let few_guards : length wide.guards ≤ 8 = grind (arith, nat_tests, counts.1) in
       nest_joins s sound (checked_nest (scope_of s nest) line nest) (record {
         vars = omega arith;
         spans = All-mapped (IsNear scope) SpanFits (checked_span scope) nest.vars (λ var close. span_fits scope var close) (near_bounds scope nest narrow.1);
         guards = omega arith;
+        target_inside = λ p inside. ref_inside s.job scope (ranges_of wide) nest.target p scope_narrow (in_box p inside) has fourth.1 (leaves_none s.job (ranges_of wide) wide.target wide.reads p (in_box p inside) boxed).0;
+        reads_inside = subst (All (StaysInside s.job (map (checked_span scope) nest.vars))) (sym (refs_are scope levels nest.body))
+            (All-mapped (λ ref. Rests (ref_of scope ref)) (StaysInside s.job (map (checked_span scope) nest.vars)) (checked_ref scope) raw
+            (λ ref rests p inside. ref_inside s.job scope (ranges_of wide) ref p scope_narrow (in_box p inside)
+            (array_at_name s.job (named_in scope ref.name) (there_in nest ref.name) (or_parts (not (is_array (named_in scope ref.name))) (ref_fails is_no_count (ref_of scope ref)) rests.0.kind).0)
+            rests.0.narrow (rests.1 p (in_box p inside))) rested);
         reads = subst (All (ReadFits s.job (checked_ref scope nest.target))) (sym (refs_are scope levels nest.body))
-          (All-mapped (λ ref. Kept s.job wide.target (ref_of scope ref)) (ReadFits s.job (checked_ref scope nest.target)) (checked_ref scope) raw
+            (All-mapped (λ ref. Kept s.job wide.target (ref_of scope ref)) (ReadFits s.job (checked_ref scope nest.target)) (checked_ref scope) raw
             (λ ref keeps. read_fits s.job wide.target (ref_of scope ref) sound.job.arrays has
-              (array_at_name s.job (named_in scope ref.name) (there_in nest ref.name) (or_parts (not (is_array (named_in scope ref.name))) (ref_fails is_no_count (ref_of scope ref)) keeps.kind).0)
-              fourth.1 keeps) kept);
-        target = dense_at s.job (number_of (named_in (scope_of s nest) nest.target.name)) has sound.job.arrays (rule_not (form.Nest nest) none 8 (omega arith))
+            (array_at_name s.job (named_in scope ref.name) (there_in nest ref.name) (or_parts (not (is_array (named_in scope ref.name))) (ref_fails is_no_count (ref_of scope ref)) keeps.kind).0)
+            fourth.1 keeps) kept);
+        target = dense_at s.job (number_of (named_in (scope_of s nest) nest.target.name)) has sound.job.arrays (rule_not (form.Nest nest) none 8 (omega arith));
       }) (below_limit (length s.job.nests) 32 narrow.0)
 
   step_line : (line : Form) (number : ℕ) → Unbroken line → Sound (after s number line)
@@ -569,6 +628,7 @@ nothing P k d within = absurd (omega (arith, within))
 sound_start : Sound start
 sound_start = record {
   names = tt;
+  plain = tt;
   job = record {
     extent_count = omega arith;
     place_count = omega arith;
@@ -580,8 +640,8 @@ sound_start = record {
     formats = nothing (λ f. ShapeFits f.shape);
     arrays = nothing (ArrayFits start.job);
     nests = nothing (NestFits start.job);
-    prints = nothing (IsDenseIn start.job)
-  }
+    prints = nothing (IsDenseIn start.job);
+  };
 }
 
 -- what the rules accept fits

@@ -1,5 +1,5 @@
 -- The values of a sum over the points of a box.
-use Rattle.std.proofs.Common.{◌≡◌, ◌∙◌, ◌⊎◌, ◌↔◌, inl, inr, ℕ, zero, suc, Bool, true, false, ◌||◌, ◌==◌, if◌then◌else◌, List, [], ◌∷◌, ◌++◌, Option, Some, None, ℤ, pos, negsuc, ◌+ℤ◌, ◌-ℤ◌, ◌*ℤ◌, ◌≤ℤ◌, ◌<ℤ◌, refl, sym, ap, subst, arith}
+use Rattle.std.proofs.Common.{◌≡◌, ◌∙◌, inl, inr, ℕ, zero, suc, Bool, true, false, ◌||◌, ◌==◌, if◌then◌else◌, List, [], ◌∷◌, ◌++◌, Option, Some, None, ℤ, pos, negsuc, ◌+ℤ◌, ◌-ℤ◌, ◌*ℤ◌, ◌≤ℤ◌, ◌<ℤ◌, refl, sym, ap, subst, arith}
 use Rattle.std.specs.Prelude.{int_lt, int_le}
 use Rattle.std.specs.List.{fold, list_any}
 use Rattle.std.proofs.lemmas.Bool.{or_parts}
@@ -8,7 +8,6 @@ use Rattle.std.proofs.lemmas.Int.{ints}
 use Rattle.std.proofs.lemmas.List.Folds.{list_any-append}
 use Rattle.std.proofs.lemmas.List.Sums.{fold-append}
 use lib.IntN.{+ℤ_idl, +ℤ_idr, zero-*ℤ}
-use Rattle.job_rules.specs.declared.items.Item.{Item}
 use Rattle.job_rules.specs.declared.ranges.Range.{Range}
 use Rattle.job_rules.specs.Sums.{Sum, variable_of, constant_part, coefficient_part, add_variable, constant_of, coefficient_of, variables_in, range_at, least_part, greatest_part, least, greatest}
 use Rattle.job_rules.specs.Nests.{is_box_empty, leaves_extent}
@@ -16,7 +15,7 @@ use Rattle.job_rules.specs.Points.{Point, InBox, value_part, value_at, LeavesSom
 use Rattle.job_rules.proofs.ProductLemmas.{add_mul, mul_rises, mul_falls, swap_plus}
 
 -- a number and what each variable of a list gives
-abbrev added : (ℕ → ℤ) → ℤ → List ℕ → ℤ
+abbrev pub added : (ℕ → ℤ) → ℤ → List ℕ → ℤ
 added f c vs = fold (λ total v. total +ℤ f v) c vs
 
 four : (a b c d : ℤ) → (a +ℤ b) +ℤ (c +ℤ d) ≡ (a +ℤ c) +ℤ (b +ℤ d)
@@ -39,7 +38,7 @@ flip a b true e = grind (arith, nat_tests)
 flip a b false e = grind (arith, nat_tests)
 
 -- n at w, and 0 elsewhere
-abbrev only : ℕ → ℤ → ℕ → ℤ
+abbrev pub only : ℕ → ℤ → ℕ → ℤ
 only w n v = if w == v then n else pos 0
 
 module _ (w : ℕ) (n : ℤ) (p : ℕ → ℤ) where
@@ -59,7 +58,7 @@ module _ (w : ℕ) (n : ℤ) (p : ℕ → ℤ) where
       ap (λ t. added part (c +ℤ t) vs) (part-other v (flip v w false both.0)) ∙ ap (λ t. added part t vs) (+ℤ_idr c) ∙ added-none c vs both.1
 
 -- no variable stands twice
-abbrev Distinct : List ℕ → Type 0
+abbrev pub Distinct : List ℕ → Type 0
 Distinct [] = Unit {0}
 Distinct (v ∷ vs) = (list_any (λ x. x == v) vs ≡ false) × Distinct vs
 
@@ -84,28 +83,28 @@ added-once w n p c (v ∷ vs) distinct some = by (v == w) refl (added-once w n p
         ap (λ t. added (part w n p) (c +ℤ t) vs) (part-other w n p v (flip v w false other)) ∙ ap (λ t. added (part w n p) t vs) (+ℤ_idr c) ∙ behind rest
 
 -- a value, by a constant, the coefficient of each variable, and a list of the variables that have one
-record Keeps (p : Point) (c val : ℤ) (k : ℕ → ℤ) (vs : List ℕ) : Type 0 where
-  same : val ≡ added (λ v. k v *ℤ p v) c vs
-  once : Distinct vs
-  covers : (w : ℕ) → list_any (λ x. x == w) vs ≡ false → k w ≡ pos 0
+pub record Keeps (p : Point) (c val : ℤ) (k : ℕ → ℤ) (vs : List ℕ) : Type 0 where
+  pub same : val ≡ added (λ v. k v *ℤ p v) c vs
+  pub once : Distinct vs
+  pub covers : (w : ℕ) → list_any (λ x. x == w) vs ≡ false → k w ≡ pos 0
 
 module _ (p : Point) (c val : ℤ) (k : ℕ → ℤ) (vs : List ℕ) (keeps : Keeps p c val k vs) where
-  step_none : (n : ℤ) → Keeps p (c +ℤ n) (val +ℤ n) (λ v. k v +ℤ pos 0) vs
+  pub step_none : (n : ℤ) → Keeps p (c +ℤ n) (val +ℤ n) (λ v. k v +ℤ pos 0) vs
   step_none n = record {
     same = ap (λ x. x +ℤ n) keeps.same ∙ sym (added-start (λ v. k v *ℤ p v) c n vs) ∙ sym (λ i. added (λ v. +ℤ_idr (k v) i *ℤ p v) (c +ℤ n) vs);
     once = keeps.once;
-    covers = λ w none. +ℤ_idr (k w) ∙ keeps.covers w none
+    covers = λ w none. +ℤ_idr (k w) ∙ keeps.covers w none;
   }
 
   -- the products of the new coefficients, apart
   spread : (w : ℕ) (n : ℤ) (us : List ℕ) → added (λ v. (k v +ℤ only w n v) *ℤ p v) (c +ℤ pos 0) us ≡ added (λ v. k v *ℤ p v) c us +ℤ added (part w n p) (pos 0) us
   spread w n us = (λ i. added (λ v. add_mul (k v) (only w n v) (p v) i) (c +ℤ pos 0) us) ∙ added-plus (λ v. k v *ℤ p v) (part w n p) c (pos 0) us
 
-  step_old : (w : ℕ) (n : ℤ) → list_any (λ x. x == w) vs ≡ true → Keeps p (c +ℤ pos 0) (val +ℤ n *ℤ p w) (λ v. k v +ℤ only w n v) vs
+  pub step_old : (w : ℕ) (n : ℤ) → list_any (λ x. x == w) vs ≡ true → Keeps p (c +ℤ pos 0) (val +ℤ n *ℤ p w) (λ v. k v +ℤ only w n v) vs
   step_old w n some = record {
     same = ap (λ x. x +ℤ n *ℤ p w) keeps.same ∙ ap (λ x. added (λ v. k v *ℤ p v) c vs +ℤ x) (sym (added-once w n p (pos 0) vs keeps.once some ∙ +ℤ_idl (n *ℤ p w))) ∙ sym (spread w n vs);
     once = keeps.once;
-    covers = λ v none. by v none (w == v) refl
+    covers = λ v none. by v none (w == v) refl;
   }
     where
       by : (v : ℕ) → list_any (λ x. x == v) vs ≡ false → (b : Bool) → (w == v) ≡ b → k v +ℤ only w n v ≡ pos 0
@@ -120,19 +119,23 @@ module _ (p : Point) (c val : ℤ) (k : ℕ → ℤ) (vs : List ℕ) (keeps : Ke
     same = sym all;
     once = Distinct-push vs w keeps.once none;
     covers = λ v gone.
-      let both = or_parts (list_any (λ x. x == v) vs) (w == v || false) (sym (list_any-append (λ x. x == v) vs (w ∷ [])) ∙ gone) in
-      let other = or_parts (w == v) false both.1 in
-      ap (λ b. k v +ℤ (if b then n else pos 0)) other.0 ∙ +ℤ_idr (k v) ∙ keeps.covers v both.0
+        let both = or_parts (list_any (λ x. x == v) vs) (w == v || false) (sym (list_any-append (λ x. x == v) vs (w ∷ [])) ∙ gone) in
+        let other = or_parts (w == v) false both.1 in
+        ap (λ b. k v +ℤ (if b then n else pos 0)) other.0 ∙ +ℤ_idr (k v) ∙ keeps.covers v both.0;
   }
     where
       both : ℕ → ℤ
       both v = (k v +ℤ only w n v) *ℤ p v
+
       self : (w == w) ≡ true
       self = grind (arith, nat_tests)
+
       last : (k w +ℤ only w n w) *ℤ p w ≡ n *ℤ p w
       last = ap (λ x. (x +ℤ only w n w) *ℤ p w) (keeps.covers w none) ∙ ap (λ x. x *ℤ p w) (+ℤ_idl (only w n w)) ∙ part-same w n p w self
+
       front : added (λ v. (k v +ℤ only w n v) *ℤ p v) (c +ℤ pos 0) vs ≡ val
       front = spread w n vs ∙ ap (λ x. added (λ v. k v *ℤ p v) c vs +ℤ x) (added-none w n p (pos 0) vs none) ∙ +ℤ_idr (added (λ v. k v *ℤ p v) c vs) ∙ sym keeps.same
+
       all : added (λ v. (k v +ℤ only w n v) *ℤ p v) (c +ℤ pos 0) (vs ++ w ∷ []) ≡ val +ℤ n *ℤ p w
       all = fold-append (λ total v. total +ℤ (k v +ℤ only w n v) *ℤ p v) (c +ℤ pos 0) vs (w ∷ []) ∙ ap (λ x. x +ℤ (k w +ℤ only w n w) *ℤ p w) front ∙ ap (λ x. val +ℤ x) last
 
@@ -228,13 +231,13 @@ module _ (ranges : List Range) (sum : Sum) where
   unfolding least
   least_below p inside = subst (λ x. least ranges sum ≤ℤ x) (sym (value_is p sum))
       (added-le (λ v. least_part (coefficient_of v sum) (range_at ranges v)) (λ v. coefficient_of v sum *ℤ p v) (constant_of sum) (constant_of sum) (variables_in sum) (omega (arith, ints))
-        (λ v. part_above (coefficient_of v sum) (range_at ranges v) (p v) (inside v).0 (inside v).1))
+      (λ v. part_above (coefficient_of v sum) (range_at ranges v) (p v) (inside v).0 (inside v).1))
 
   greatest_above : (p : Point) → InBox ranges p → value_at p sum ≤ℤ greatest ranges sum
   unfolding greatest
   greatest_above p inside = subst (λ x. x ≤ℤ greatest ranges sum) (sym (value_is p sum))
       (added-le (λ v. coefficient_of v sum *ℤ p v) (λ v. greatest_part (coefficient_of v sum) (range_at ranges v)) (constant_of sum) (constant_of sum) (variables_in sum) (omega (arith, ints))
-        (λ v. part_below (coefficient_of v sum) (range_at ranges v) (p v) (inside v).0 (inside v).1))
+      (λ v. part_below (coefficient_of v sum) (range_at ranges v) (p v) (inside v).0 (inside v).1))
 
   module _ (some : is_box_empty ranges ≡ false) where
     first_within : (v : ℕ) → Within (range_at ranges v) (range_at ranges v).lo
@@ -258,7 +261,7 @@ module _ (ranges : List Range) (sum : Sum) where
 
     leaves_at : (extent : ℕ) → LeavesSomewhere ranges extent sum → (int_lt (least ranges sum) (pos 0) || int_le (pos extent) (greatest ranges sum)) ≡ true
     leaves_at extent somewhere = elim somewhere.2 [
-        inl low ↦ (let bound = least_below somewhere.0 somewhere.1 in
+      | inl low ↦ (let bound = least_below somewhere.0 somewhere.1 in
           let e : int_lt (least ranges sum) (pos 0) ≡ true = grind (arith, ints) in ap (λ b. b || int_le (pos extent) (greatest ranges sum)) e)
       | inr high ↦ (let bound = greatest_above somewhere.0 somewhere.1 in
           let e : int_le (pos extent) (greatest ranges sum) ≡ true = grind (arith, ints) in ap (λ b. int_lt (least ranges sum) (pos 0) || b) e ∙ or_true (int_lt (least ranges sum) (pos 0)))

@@ -1,21 +1,17 @@
 -- Sums of one form, and the references of an expression.
-use Rattle.std.proofs.Common.{◌≡◌, ◌∙◌, ◌⊎◌, inl, inr, ℕ, zero, suc, Bool, true, false, ◌&&◌, ◌==◌, if◌then◌else◌, List, [], ◌∷◌, ◌++◌, Option, Some, None, ℤ, pos, ◌+ℤ◌, map, refl, sym, ap, subst, arith}
+use Rattle.std.proofs.Common.{◌≡◌, ◌∙◌, ◌⊎◌, inl, inr, ℕ, zero, suc, Bool, true, false, ◌&&◌, ◌==◌, List, [], ◌∷◌, ◌++◌, Option, Some, None, pos, ◌+ℤ◌, map, refl, sym, ap, subst, arith}
 use Rattle.std.specs.List.{fold, list_all, flat_map}
 use Rattle.std.specs.Ordering.{int_eq}
 use Rattle.std.proofs.lemmas.Bool.{and_parts}
 use Rattle.std.proofs.lemmas.Bool.Decides.{nat_tests, Decides-int_eq}
 use Rattle.std.proofs.lemmas.List.{map-append}
-use Rattle.bern_base.specs.declared.job.Expr.{Expr, out-Expr, roll-Expr, out-roll-Expr}
-use Rattle.bern_base.specs.declared.job.Product.{Product}
-use Rattle.bern_base.specs.declared.job.Factor.TheVariants as checked
-use Rattle.bern_base.specs.declared.job.Ref.{Ref}
+use Rattle.bern_base.specs.declared.job.Expr.{out-roll-Expr}
 use Rattle.bern_base.specs.declared.raw.RawExpr.{RawExpr, out-RawExpr}
 use Rattle.bern_base.specs.declared.raw.RawFactor.{RawFactor}
 use Rattle.bern_base.specs.declared.raw.RawFactor.TheVariants as factor
 use Rattle.bern_base.specs.declared.raw.RawProduct.{RawProduct}
-use Rattle.bern_base.specs.declared.raw.RawRef.{RawRef}
 use Rattle.job_rules.specs.declared.items.Item.{Item}
-use Rattle.job_rules.specs.Sums.{Sum, variable_of, coefficient_part, coefficient_of, constant_of, agrees_at, same_form, is_within, affine_of}
+use Rattle.job_rules.specs.Sums.{Sum, variable_of, coefficient_part, coefficient_of, constant_of, agrees_at, same_form, is_within}
 use Rattle.job_rules.specs.Looked.{Scope, reads_of, product_reads, factor_reads}
 use Rattle.job_rules.specs.After.{narrow_of, checked_ref, checked_factor, checked_product, checked_expr}
 use Rattle.job_rules.specs.Accepted.{refs_of, product_refs, factor_refs}
@@ -30,6 +26,7 @@ item_agrees a b v item (Some w) is agrees = by (w == v) refl
   where
     same : int_eq (coefficient_of w a) (coefficient_of w b) ≡ true
     same = rw (is, agrees_at) at agrees
+
     by : (t : Bool) → (w == v) ≡ t → (coefficient_part v item ≡ pos 0) ⊎ Agree a b v
     by true e = let at : w ≡ v = grind (arith, nat_tests) in inr (subst (λ k. Agree a b k) at same)
     by false e = inl (rw (is, coefficient_part, e) refl)
@@ -39,11 +36,11 @@ agree_from a b [] v agrees = inl refl
 agree_from a b (item ∷ items) v agrees =
     let both = and_parts (agrees_at a b item) (list_all (agrees_at a b) items) agrees in
     elim (item_agrees a b v item (variable_of item.meaning) refl both.0) [
-        inr agree ↦ inr agree
+      | inr agree ↦ inr agree
       | inl none ↦ elim (agree_from a b items v both.1) [
-            inr agree ↦ inr agree
-          | inl rest ↦ inl (ap (λ start. fold (λ total i. total +ℤ coefficient_part v i) (pos 0 +ℤ start) items) none ∙ rest)
-        ]
+        | inr agree ↦ inr agree
+        | inl rest ↦ inl (ap (λ start. fold (λ total i. total +ℤ coefficient_part v i) (pos 0 +ℤ start) items) none ∙ rest)
+      ]
     ]
 
 -- sums of one form have the same constant and the same coefficients
@@ -53,11 +50,11 @@ same_coefficient a b v same =
     let outer = and_parts (int_eq (constant_of a) (constant_of b) && list_all (agrees_at a b) a) (list_all (agrees_at a b) b) same in
     let inner = and_parts (int_eq (constant_of a) (constant_of b)) (list_all (agrees_at a b) a) outer.0 in
     elim (agree_from a b a v inner.1) [
-        inr agree ↦ (Decides-int_eq (coefficient_of v a) (coefficient_of v b)).0 agree
+      | inr agree ↦ (Decides-int_eq (coefficient_of v a) (coefficient_of v b)).0 agree
       | inl none ↦ elim (agree_from a b b v outer.1) [
-            inr agree ↦ (Decides-int_eq (coefficient_of v a) (coefficient_of v b)).0 agree
-          | inl zero_too ↦ none ∙ sym zero_too
-        ]
+        | inr agree ↦ (Decides-int_eq (coefficient_of v a) (coefficient_of v b)).0 agree
+        | inl zero_too ↦ none ∙ sym zero_too
+      ]
     ]
 
 same_constant : (a b : Sum) → same_form a b ≡ true → constant_of a ≡ constant_of b
@@ -72,7 +69,7 @@ unfolding narrow_of
 same_narrow a b first second same =
     rw (first, second) (λ i. record {
       c0 = same_constant a b same i;
-      coef = same_coefficient a b 0 same i ∷ same_coefficient a b 1 same i ∷ same_coefficient a b 2 same i ∷ same_coefficient a b 3 same i ∷ []
+      coef = same_coefficient a b 0 same i ∷ same_coefficient a b 1 same i ∷ same_coefficient a b 2 same i ∷ same_coefficient a b 3 same i ∷ [];
     })
 
 -- the references of an expression with numbers are its references with numbers

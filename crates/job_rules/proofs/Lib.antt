@@ -9,5 +9,6 @@ pub mod WalkLemmas
 pub mod ProductLemmas
 pub mod BoxLemmas
 pub mod FormLemmas
+pub mod InsideLemmas
 pub mod AcceptedLemmas
 pub mod AnswerLemmas

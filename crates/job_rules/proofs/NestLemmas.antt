@@ -1,5 +1,5 @@
 -- Nests within their limits.
-use Rattle.std.proofs.Common.{◌≡◌, ◌≤◌, Bool, false, ◌||◌, nat_lt, List, [], ◌∷◌, map, length, not, arith}
+use Rattle.std.proofs.Common.{◌≡◌, false, ◌||◌, nat_lt, List, [], ◌∷◌, map, length, arith}
 use Rattle.std.specs.Prelude.{unsigned_abs}
 use Rattle.std.specs.List.{All, list_any}
 use Rattle.std.proofs.lemmas.Bool.{or_parts}

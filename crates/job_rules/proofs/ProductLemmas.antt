@@ -1,7 +1,7 @@
 -- Products of whole numbers.
 use Rattle.std.proofs.Common.{◌≡◌, ◌∙◌, ℕ, zero, suc, ℤ, pos, negsuc, neg_ℤ, ◌+ℤ◌, ◌-ℤ◌, ◌*ℤ◌, ◌≤ℤ◌, sym, ap, arith}
 use Rattle.std.proofs.lemmas.Int.{ints}
-use lib.IntN.{suc_ℤ, pred_ℤ, ℤ_ind, suc_ℤ-+ℤ, pred_ℤ-+ℤ, +ℤ_one, -ℤ_one, suc_ℤ-*ℤ, pred_ℤ-*ℤ, zero-*ℤ, +ℤ_idl, *ℤ_comm, *ℤ-negsuc}
+use lib.IntN.{ℤ_ind, suc_ℤ-+ℤ, pred_ℤ-+ℤ, +ℤ_one, -ℤ_one, suc_ℤ-*ℤ, pred_ℤ-*ℤ, zero-*ℤ, +ℤ_idl, *ℤ_comm, *ℤ-negsuc}
 
 pub swap_plus : (x y z : ℤ) → (x +ℤ y) +ℤ z ≡ (x +ℤ z) +ℤ y
 swap_plus x y z = omega (arith, ints)
@@ -15,13 +15,16 @@ add_mul a b p = ℤ_ind Spreads base (λ n ih. up (pos n) ih) (λ n ih. down (ne
   where
     Spreads : ℤ → Type 0
     Spreads x = (x +ℤ b) *ℤ p ≡ x *ℤ p +ℤ b *ℤ p
+
     base : (pos 0 +ℤ b) *ℤ p ≡ pos 0 *ℤ p +ℤ b *ℤ p
     base = ap (λ x. x *ℤ p) (+ℤ_idl b) ∙ sym (ap (λ x. x +ℤ b *ℤ p) (zero-*ℤ p) ∙ +ℤ_idl (b *ℤ p))
+
     up : (x : ℤ) → (x +ℤ b) *ℤ p ≡ x *ℤ p +ℤ b *ℤ p → (x +ℤ pos 1 +ℤ b) *ℤ p ≡ (x +ℤ pos 1) *ℤ p +ℤ b *ℤ p
     up x ih =
         let left : (x +ℤ pos 1 +ℤ b) *ℤ p ≡ (x +ℤ b) *ℤ p +ℤ p = ap (λ y. (y +ℤ b) *ℤ p) (+ℤ_one x) ∙ ap (λ y. y *ℤ p) (suc_ℤ-+ℤ x b) ∙ suc_ℤ-*ℤ (x +ℤ b) p in
         let right : (x +ℤ pos 1) *ℤ p ≡ x *ℤ p +ℤ p = ap (λ y. y *ℤ p) (+ℤ_one x) ∙ suc_ℤ-*ℤ x p in
         left ∙ ap (λ y. y +ℤ p) ih ∙ swap_plus (x *ℤ p) (b *ℤ p) p ∙ ap (λ y. y +ℤ b *ℤ p) (sym right)
+
     down : (x : ℤ) → (x +ℤ b) *ℤ p ≡ x *ℤ p +ℤ b *ℤ p → (x -ℤ pos 1 +ℤ b) *ℤ p ≡ (x -ℤ pos 1) *ℤ p +ℤ b *ℤ p
     down x ih =
         let left : (x -ℤ pos 1 +ℤ b) *ℤ p ≡ (x +ℤ b) *ℤ p -ℤ p = ap (λ y. (y +ℤ b) *ℤ p) (-ℤ_one x) ∙ ap (λ y. y *ℤ p) (pred_ℤ-+ℤ x b) ∙ pred_ℤ-*ℤ (x +ℤ b) p in

@@ -1,6 +1,6 @@
 -- What an accepted job keeps: its numbers name items of its own lists, and its sizes and counts are within their limits.
-use Rattle.std.specs.Prelude.{◌≡◌, ℕ, ◌≤◌, ◌⊎◌, zero, suc, List, [], ◌∷◌, Option, Some, true, false, if◌then◌else◌, length, slice_get, unsigned_abs}
-use Rattle.std.specs.List.{All, flat_map}
+use Rattle.std.specs.Prelude.{◌≡◌, ℕ, ◌≤◌, ◌⊎◌, zero, suc, List, [], ◌∷◌, Some, true, false, if◌then◌else◌, length, slice_get, slice_index_or, unsigned_abs, ℤ, pos, ◌+ℤ◌, ◌*ℤ◌, ◌≤ℤ◌, ◌<ℤ◌, map}
+use Rattle.std.specs.List.{All, flat_map, fold}
 use Rattle.bern_base.specs.Affine.{AffineForm}
 use Rattle.bern_base.specs.declared.job.ArrayDecl.{ArrayDecl}
 use Rattle.bern_base.specs.declared.job.Checked.{Checked}
@@ -20,6 +20,8 @@ use Rattle.bern_base.specs.declared.raw.JobText.{JobText}
 use Rattle.job_rules.specs.State.{shape_dims, is_by_row, is_all_dense, is_col}
 use Rattle.job_rules.specs.First.{Accepts}
 use Rattle.job_rules.specs.Looked.{levels}
+use Rattle.job_rules.specs.Points.{Point, InBox}
+use Rattle.job_rules.specs.declared.ranges.Range.{Range}
 
 -- an item of this number is there, and has this
 abbrev pub Has : {A : Type 0} → List A → ℕ → (A → Type 0) → Type 0
@@ -80,6 +82,25 @@ pub record LiesAt (job : Checked) (target ref : Ref) : Type 0 where
 abbrev pub ReadFits : Checked → Ref → Ref → Type 0
 ReadFits job target ref = Has job.arrays ref.array (λ a. Unit {0}) × (IsDenseIn job ref.array ⊎ LiesAt job target ref)
 
+-- the value of a form at a point, which gives each variable a value
+abbrev pub form_value : Point → AffineForm → ℤ
+form_value point form = fold (λ total v. total +ℤ slice_index_or form.coef v (pos 0) *ℤ point v) form.c0 (0 ∷ 1 ∷ 2 ∷ 3 ∷ [])
+
+-- the values of a variable; one that is not there has the value 0
+abbrev pub span_values : Span → Range
+span_values span = record { lo = span.lo; hi = span.hi }
+
+abbrev pub InSpans : List Span → Point → Type 0
+InSpans spans point = InBox (map span_values spans) point
+
+-- a value of a subscript that is one of an axis of this size
+abbrev pub IsIndex : ℕ → ℤ → Type 0
+IsIndex size value = (pos 0 ≤ℤ value) × (value <ℤ pos size)
+
+-- at each point of the box, guards not regarded, both subscripts are inside their extents
+abbrev pub StaysInside : Checked → List Span → Ref → Type 0
+StaysInside job spans ref = (point : Point) → InSpans spans point → Has job.arrays ref.array (λ a. IsIndex a.rows (form_value point ref.row) × IsIndex a.cols (form_value point ref.col))
+
 abbrev pub SpanFits : Span → Type 0
 SpanFits span = (unsigned_abs span.lo ≤ 4194304) × (unsigned_abs span.hi ≤ 4194304)
 
@@ -88,7 +109,9 @@ pub record NestFits (job : Checked) (nest : Nest) : Type 0 where
   pub spans : All SpanFits nest.vars
   pub guards : length nest.guards ≤ 8
   pub target : IsDenseIn job nest.target.array
+  pub target_inside : StaysInside job nest.vars nest.target
   pub reads : All (ReadFits job nest.target) (refs_of levels nest.body)
+  pub reads_inside : All (StaysInside job nest.vars) (refs_of levels nest.body)
 
 pub record Fits (job : Checked) : Type 0 where
   pub extent_count : length job.extents ≤ 32

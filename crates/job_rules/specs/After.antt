@@ -1,8 +1,7 @@
 -- The job with numbers for names: what a line adds.
-use Rattle.std.specs.Prelude.{ℕ, ◌+◌, List, [], ◌∷◌, ◌++◌, Option, Some, None, Bool, ℤ, length, map, zero, suc, if◌then◌else◌, slice_index_or, pos, ◌&&◌, ◌≤◌, unsigned_abs}
+use Rattle.std.specs.Prelude.{ℕ, List, [], ◌∷◌, ◌++◌, length, map, zero, suc, if◌then◌else◌, pos, ◌&&◌, ◌≤◌, unsigned_abs}
 use Rattle.bern_base.specs.Affine.{AffineForm}
 use Rattle.bern_base.specs.declared.job.ArrayDecl.{ArrayDecl}
-use Rattle.bern_base.specs.declared.job.Checked.{Checked}
 use Rattle.bern_base.specs.declared.job.ExtentDecl.{ExtentDecl}
 use Rattle.bern_base.specs.declared.job.Expr.{Expr, roll-Expr}
 use Rattle.bern_base.specs.declared.job.Factor.{Factor}
@@ -20,7 +19,6 @@ use Rattle.bern_base.specs.declared.job.Shape.TheVariants as shaped
 use Rattle.bern_base.specs.declared.job.Span.{Span}
 use Rattle.bern_base.specs.declared.raw.Form.{Form}
 use Rattle.bern_base.specs.declared.raw.Form.TheVariants as form
-use Rattle.bern_base.specs.declared.raw.JobLine.{JobLine}
 use Rattle.bern_base.specs.declared.raw.RawExpr.{RawExpr, out-RawExpr}
 use Rattle.bern_base.specs.declared.raw.RawFactor.{RawFactor}
 use Rattle.bern_base.specs.declared.raw.RawFactor.TheVariants as factor
@@ -35,7 +33,7 @@ use Rattle.bern_base.specs.declared.raw.RawShape.TheVariants as shape
 use Rattle.bern_base.specs.declared.raw.RawVar.{RawVar}
 use Rattle.job_rules.specs.declared.names.Named.TheVariants as named
 use Rattle.job_rules.specs.declared.wide.WideRef.{WideRef}
-use Rattle.job_rules.specs.Known.{Known, lookup}
+use Rattle.job_rules.specs.Known.{lookup}
 use Rattle.job_rules.specs.State.{State, number_of, extent_size}
 use Rattle.job_rules.specs.Looked.{Scope, scope_of, sum_of, ref_of, levels}
 use Rattle.job_rules.specs.Sums.{Sum, constant_of, is_within, affine_of, difference_of}

@@ -1,5 +1,5 @@
 -- A nest with its names looked up.
-use Rattle.std.specs.Prelude.{ℕ, ◌*◌, List, [], ◌∷◌, ◌++◌, Option, Some, None, Bool, true, false, ℤ, pos, neg_ℤ, ◌*ℤ◌, map, if◌then◌else◌, length, zero, suc, slice_index_or, ◌<◌, ◌≤◌, ◌^◌}
+use Rattle.std.specs.Prelude.{ℕ, List, [], ◌∷◌, ◌++◌, Option, Some, None, Bool, true, false, ℤ, pos, neg_ℤ, ◌*ℤ◌, map, if◌then◌else◌, length, zero, suc, slice_index_or, ◌<◌, ◌≤◌, ◌^◌}
 use Rattle.std.specs.List.{fold, flat_map, All}
 use Rattle.std.specs.Option.{option_or}
 use Rattle.bern_base.specs.declared.job.ExtentDecl.{ExtentDecl}

@@ -1,12 +1,10 @@
 -- The rules of a nest whose names are looked up, each by itself.
-use Rattle.std.specs.Prelude.{ℕ, ◌+◌, ◌*◌, ◌^◌, List, [], ◌∷◌, ◌++◌, Option, Some, None, Bool, true, false, not, ◌&&◌, ◌||◌, ◌==◌, nat_lt, nat_le, ℤ, pos, ◌-ℤ◌, int_lt, int_le, unsigned_abs, length, map, slice_get, slice_index_or, is_none, if◌then◌else◌}
+use Rattle.std.specs.Prelude.{ℕ, List, [], Some, None, Bool, true, false, not, ◌&&◌, ◌||◌, ◌==◌, nat_lt, pos, ◌-ℤ◌, int_lt, int_le, unsigned_abs, length, map, slice_index_or, is_none, if◌then◌else◌}
 use Rattle.std.specs.List.{list_any, list_all, enumerate_from}
-use Rattle.std.specs.Option.{option_map_or}
 use Rattle.std.specs.Ordering.{int_eq}
 use Rattle.bern_base.specs.declared.axes.Axis.TheVariants as axis
 use Rattle.bern_base.specs.declared.job.ArrayDecl.{ArrayDecl}
 use Rattle.bern_base.specs.declared.job.Checked.{Checked}
-use Rattle.job_rules.specs.declared.names.Named.{Named}
 use Rattle.job_rules.specs.declared.names.Named.TheVariants as named
 use Rattle.job_rules.specs.declared.items.Item.{Item}
 use Rattle.job_rules.specs.declared.items.Meaning.{Meaning}

@@ -1,5 +1,5 @@
 -- What the least and greatest value of a subscript mean: its values at the points of the box.
-use Rattle.std.specs.Prelude.{◌≡◌, ◌⊎◌, ◌↔◌, ℕ, List, Option, Some, None, true, false, ℤ, pos, ◌+ℤ◌, ◌*ℤ◌, ◌≤ℤ◌, ◌<ℤ◌}
+use Rattle.std.specs.Prelude.{◌≡◌, ◌⊎◌, ◌↔◌, ℕ, List, Some, None, true, false, ℤ, pos, ◌+ℤ◌, ◌*ℤ◌, ◌≤ℤ◌, ◌<ℤ◌}
 use Rattle.std.specs.List.{fold}
 use Rattle.job_rules.specs.declared.items.Item.{Item}
 use Rattle.job_rules.specs.declared.ranges.Range.{Range}

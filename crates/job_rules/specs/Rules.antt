@@ -1,5 +1,5 @@
 -- The rules of a job, one predicate a rule, and the first that a line breaks.
-use Rattle.std.specs.Prelude.{ℕ, ◌+◌, List, [], ◌∷◌, Option, Some, None, Bool, true, false, not, ◌&&◌, ◌||◌, ◌==◌, nat_lt, nat_le, nat_eq, unsigned_abs, length, slice_index_or, is_none, is_some}
+use Rattle.std.specs.Prelude.{ℕ, List, [], ◌∷◌, Option, Bool, false, not, ◌&&◌, ◌||◌, ◌==◌, nat_lt, nat_le, nat_eq, unsigned_abs, length, slice_index_or, is_none}
 use Rattle.std.specs.List.{list_any, find}
 use Rattle.bern_base.specs.declared.axes.Axis.{Axis}
 use Rattle.bern_base.specs.declared.job.Shape.{Shape}
@@ -16,7 +16,7 @@ use Rattle.bern_base.specs.declared.refusal.Rule.TheVariants as r
 use Rattle.job_rules.specs.declared.names.Named.{Named}
 use Rattle.job_rules.specs.declared.wide.WideNest.{WideNest}
 use Rattle.job_rules.specs.Known.{Known, lookup}
-use Rattle.job_rules.specs.State.{State, is_known, is_extent, is_place, is_format, is_array, number_of, place_extent, shape_at, shape_dims, is_all_dense, is_by_row, is_col, axis_place}
+use Rattle.job_rules.specs.State.{State, is_known, is_extent, is_place, is_format, is_array, number_of, place_extent, shape_at, shape_dims, is_by_row, is_col, axis_place}
 use Rattle.job_rules.specs.Looked.{scope_of, nest_in, levels}
 use Rattle.job_rules.specs.Nests as n
 use Rattle.job_rules.specs.Terms.{terms_of, has_too_many}

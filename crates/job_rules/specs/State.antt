@@ -1,10 +1,8 @@
 -- What stands before a line: the names that are known there, and the job so far, with numbers for names.
-use Rattle.std.specs.Prelude.{ℕ, List, [], ◌∷◌, Option, Some, None, Bool, true, false, is_some, slice_get}
+use Rattle.std.specs.Prelude.{ℕ, List, [], Option, Some, None, Bool, true, false, is_some, slice_get}
 use Rattle.std.specs.Option.{option_map_or}
 use Rattle.bern_base.specs.declared.axes.Axis.{Axis}
 use Rattle.bern_base.specs.declared.axes.Axis.TheVariants as axis
-use Rattle.bern_base.specs.declared.job.ArrayDecl.{ArrayDecl}
-use Rattle.bern_base.specs.declared.job.Checked.{Checked}
 use Rattle.bern_base.specs.declared.job.ExtentDecl.{ExtentDecl}
 use Rattle.bern_base.specs.declared.job.FormatDecl.{FormatDecl}
 use Rattle.bern_base.specs.declared.job.PlaceDecl.{PlaceDecl}

@@ -1,9 +1,8 @@
 -- Sums of numbers and multiples of loop variables: their constant, their coefficients, and their least and greatest value over a box.
-use Rattle.std.specs.Prelude.{ℕ, ◌+◌, ◌^◌, List, [], ◌∷◌, ◌++◌, Option, Some, None, Bool, true, false, not, ◌&&◌, ◌||◌, ◌==◌, if◌then◌else◌, nat_le, ℤ, pos, ◌+ℤ◌, ◌-ℤ◌, ◌*ℤ◌, int_lt, unsigned_abs, slice_index_or, map, length, ◌<◌, ◌≤◌}
+use Rattle.std.specs.Prelude.{ℕ, ◌^◌, List, [], ◌∷◌, ◌++◌, Option, Some, None, Bool, true, ◌&&◌, ◌==◌, if◌then◌else◌, nat_le, ℤ, pos, ◌+ℤ◌, ◌-ℤ◌, ◌*ℤ◌, int_lt, unsigned_abs, slice_index_or, map, length, ◌<◌, ◌≤◌}
 use Rattle.std.specs.List.{fold, list_any, list_all, All}
 use Rattle.std.specs.Ordering.{int_eq}
 use Rattle.bern_base.specs.Affine.{AffineForm}
-use Rattle.job_rules.specs.declared.names.Named.{Named}
 use Rattle.job_rules.specs.declared.names.Named.TheVariants as named
 use Rattle.job_rules.specs.declared.items.Item.{Item}
 use Rattle.job_rules.specs.declared.items.Meaning.{Meaning}

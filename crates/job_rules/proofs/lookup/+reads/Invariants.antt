@@ -1,7 +1,6 @@
 -- Each call of the cycle has less to do: a level less, or a step within its level.
 use Rattle.std.proofs.Common.{◌≡◌, ◌+◌, ◌-◌, ◌*◌, ◌++◌, map, take}
 use Rattle.std.specs.List.{flat_map}
-use Rattle.bern_base.specs.declared.raw.RawExpr.{out-RawExpr}
 use Rattle.job_rules.specs.Looked.{ref_of, reads_of, product_reads, factor_reads}
 use Rattle.job_rules.proofs.lookup.+reads.Given as goal
 

@@ -1,6 +1,5 @@
 use Rattle.std.proofs.Common.{arith, subst, sym, ◌≤◌}
 use Rattle.std.specs.Prelude.{unsigned_abs}
-use mir.Syntax.{w128}
 use Rattle.std.proofs.lemmas.Int.{ints}
 use Rattle.job_rules.proofs.SumLemmas.{within_constant}
 use Rattle.job_rules.proofs.narrow.narrow_constant.Goals as goal

@@ -1,4 +1,4 @@
-use Rattle.std.proofs.Common.{◌≡◌, false, drop}
+use Rattle.std.proofs.Common.{◌≡◌, drop}
 use Rattle.std.specs.List.{list_any}
 use Rattle.job_rules.specs.Nests.{leaves_array}
 use Rattle.job_rules.proofs.nest_rules.some_leaves_array.Given as goal

@@ -1,4 +1,4 @@
-use Rattle.std.proofs.Common.{◌≡◌, ◌∙◌, false, subst, sym, ap}
+use Rattle.std.proofs.Common.{◌∙◌, sym, ap}
 use Rattle.job_rules.specs.Nests.{is_too_wide, ranges_of}
 use Rattle.job_rules.proofs.NestLemmas.{near_bounds}
 use Rattle.job_rules.proofs.nests.checked.Goals as goal

@@ -1,6 +1,5 @@
-use Rattle.std.proofs.Common.{◌≡◌, ◌^◌, ◌<◌, ◌≤◌, ◌*ℤ◌, ◌∙◌, arith, lit<}
+use Rattle.std.proofs.Common.{◌^◌, ◌*ℤ◌, arith, lit<}
 use mir.Syntax.{w128}
-use Rattle.std.specs.Prelude.{unsigned_abs, FitsSigned}
 use Rattle.std.proofs.lemmas.Int.{fits_signed_mul, to_z-of_z}
 use Rattle.job_rules.proofs.IntLemmas.{abs_product}
 use Rattle.job_rules.proofs.ranges.product.Goals as goal

@@ -1,5 +1,4 @@
-use Rattle.std.proofs.Common.{◌≡◌, ◌∙◌, sym, ap, pos, false, Bool}
-use Rattle.std.specs.Prelude.{slice_get}
+use Rattle.std.proofs.Common.{◌∙◌, sym, ap, false, Bool}
 use Rattle.job_rules.specs.declared.tables.Facts.{Facts}
 use Rattle.job_rules.specs.Nests.{facts_at, facts_of, no_array}
 use Rattle.job_rules.proofs.ListLemmas.{get_or-none}

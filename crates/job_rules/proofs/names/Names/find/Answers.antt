@@ -1,4 +1,4 @@
-use Rattle.std.proofs.Common.{◌≡◌, ◌∙◌, sym, ap}
+use Rattle.std.proofs.Common.{◌∙◌, sym, ap}
 use Rattle.job_rules.specs.Known.{lookup}
 use Rattle.job_rules.proofs.NameLemmas.{lookup_view}
 use Rattle.job_rules.proofs.names.Names.find.Goals as goal

@@ -1,4 +1,4 @@
-use Rattle.std.proofs.Common.{◌≡◌, ◌∙◌, sym, ap, pos}
+use Rattle.std.proofs.Common.{◌∙◌, sym, ap, pos}
 use Rattle.std.specs.Prelude.{slice_get}
 use Rattle.job_rules.proofs.ListLemmas.{get_or-none}
 use Rattle.job_rules.proofs.ranges.Ranges.at.Goals as goal

@@ -1,4 +1,4 @@
-use Rattle.std.proofs.Common.{◌≡◌, ◌≤◌, ◌+◌, ◌*◌, ◌^◌, ◌+ℤ◌, take}
+use Rattle.std.proofs.Common.{◌≡◌, ◌≤◌, ◌+◌, ◌*◌, ◌+ℤ◌, take}
 use Rattle.std.specs.Prelude.{unsigned_abs}
 use Rattle.std.specs.List.{fold}
 use Rattle.job_rules.specs.Sums.{constant_of, coefficient_of, range_at, least_part}

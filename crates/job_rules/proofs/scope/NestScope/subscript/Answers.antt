@@ -1,4 +1,4 @@
-use Rattle.std.proofs.Common.{◌≡◌, ◌∙◌, sym, ap, []}
+use Rattle.std.proofs.Common.{◌∙◌, sym, ap, []}
 use Rattle.job_rules.specs.Looked.{sum_of, item_of}
 use Rattle.std.specs.Prelude.{map}
 use Rattle.job_rules.proofs.ListLemmas.{get_or-none}

@@ -1,4 +1,4 @@
-use Rattle.std.proofs.Common.{◌≡◌, ◌<◌, map, take, length}
+use Rattle.std.proofs.Common.{◌≡◌, ◌<◌, map, take}
 use Rattle.std.specs.List.{All}
 use Rattle.std.specs.Prelude.{unsigned_abs}
 use Rattle.job_rules.specs.Looked.{item_of}

@@ -1,4 +1,4 @@
-use Rattle.std.proofs.Common.{arith, ◌≡◌, ◌*◌, ◌∙◌, ap, min}
+use Rattle.std.proofs.Common.{arith, ◌*◌, ◌∙◌, ap, min}
 use Rattle.job_rules.proofs.TermLemmas.{times_some, times_none}
 use Rattle.job_rules.proofs.terms.Size.times.Goals as goal
 
