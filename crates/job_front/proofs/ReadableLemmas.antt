@@ -1,5 +1,5 @@
 -- What a reader of job texts gives meets what the rules rest on: sums of at most 8 items, with numbers below 2^32.
-use Rattle.std.proofs.Common.{◌≡◌, ◌⊎◌, inl, inr, ℕ, zero, suc, ◌<◌, ◌^◌, Option, Some, None, List, [], ◌∷◌, ◌++◌, length, refl, arith}
+use Rattle.std.proofs.Common.{inl, inr, ℕ, zero, suc, ◌<◌, ◌^◌, Option, Some, None, List, [], ◌∷◌, arith}
 use Rattle.std.specs.List.{All, flat_map}
 use Rattle.std.proofs.lemmas.List.Elements.{All-cons, All-append}
 use Rattle.bern_base.specs.declared.raw.Form.{Form}
@@ -83,7 +83,7 @@ nest_readable nest ts is = record {
   bounds = spread_all (Led var_name IsSpan) (λ var. IsReadable var.lo × IsReadable var.hi) span_readable nest.vars is.vars is.are_vars;
   guards = guards_readable nest.guards is.guards is.are_guards;
   target = ref_readable nest.target is.target is.is_target;
-  reads = expr_readable 17 nest.body is.body is.is_body
+  reads = expr_readable 17 nest.body is.body is.is_body;
 }
 
 form_readable : (f : Form) (text : List ℕ) → IsForm f text → IsReadableForm f

@@ -1,5 +1,5 @@
 -- What bytes come to as a job.
-use Rattle.std.specs.Prelude.{◌≡◌, ◌⊎◌, ℕ, ◌<◌, ◌≤◌, List, length}
+use Rattle.std.specs.Prelude.{◌≡◌, ◌⊎◌, ℕ, ◌<◌, List, length}
 use Rattle.bern_base.specs.declared.job.Checked.{Checked}
 use Rattle.bern_base.specs.declared.raw.JobText.{JobText}
 use Rattle.bern_base.specs.declared.refusal.Rule.{Rule}

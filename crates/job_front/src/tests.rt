@@ -6,7 +6,8 @@ use std::process::Abort;
 use std::test::Fail;
 
 /// Eleven lines that break no rule.
-const HEAD: &[u8] = b"extent n 3\nextent m 4\nplace p n block\nplace q m cyclic 2\nformat csr row dense > col packed\nformat vec row dense\nformat thin row packed\narray A n,n csr row by p from a.mtx\narray X n vec row by p from x.mtx\narray Y n vec row by p zero\narray S n thin row by p from s.mtx\n";
+const HEAD: &[u8] =
+    b"extent n 3\nextent m 4\nplace p n block\nplace q m cyclic 2\nformat csr row dense > col packed\nformat vec row dense\nformat thin row packed\narray A n,n csr row by p from a.mtx\narray X n vec row by p from x.mtx\narray Y n vec row by p zero\narray S n thin row by p from s.mtx\n";
 
 /// The rule that a twelfth line breaks, if it breaks one there.
 fn broken_by(alloc: Global, line: &[u8]) -> Result<Option<Rule>, Fail> {
@@ -54,7 +55,10 @@ fn each_rule_is_broken_by_a_line(rt: HostRuntime) -> Result<(), Fail> {
         (b"extent z 0", Rule::J15),
         (b"place r n cyclic 4194305", Rule::J15),
         (b"format d diagonal 4194304", Rule::J15),
-        (b"doany i 0..n : Y[i] += (1+1)*(1+1)*(1+1)*(1+1)*(1+1)", Rule::J15),
+        (
+            b"doany i 0..n : Y[i] += (1+1)*(1+1)*(1+1)*(1+1)*(1+1)",
+            Rule::J15,
+        ),
     ];
     assert_broken(&rt, rt.alloc(), &cases)
 }
@@ -100,7 +104,13 @@ fn lines_at_the_edge_of_a_rule_are_accepted(rt: HostRuntime) -> Result<(), Fail>
 fn the_least_line_counts(rt: HostRuntime) -> Result<(), Fail> {
     let text = b"extent n 3\n\nprint W\nextent\nprint n\n";
     let refused = take_job(rt.alloc(), text).err();
-    assert_eq!(&rt; refused, Some(CheckError::Refused { line: 3, rule: Rule::J4 }));
+    assert_eq!(&rt;
+        refused,
+        Some(CheckError::Refused {
+            line: 3,
+            rule: Rule::J4
+        })
+    );
     Ok(())
 }
 

@@ -26,7 +26,8 @@ use Rattle.job_rules.specs.Nests.{facts_at, no_array, has_other_kind, has_sparse
 use Rattle.job_rules.specs.Looked.{scope_of, named_in, variables_of, with_variable, nest_in, ref_of, span_of, guard_of, Scope, levels, reads_of, sum_of, subscript}
 use Rattle.job_rules.specs.First.{AcceptsFrom}
 use Rattle.job_rules.proofs.ListLemmas.{none_all}
-use Rattle.job_rules.proofs.FormLemmas.{refs_are, same_narrow}
+use Rattle.job_rules.proofs.FormLemmas.{refs_are, same_narrow, sizes_are}
+use Rattle.job_rules.specs.Terms.{terms_of}
 use Rattle.job_rules.proofs.NestLemmas.{near_bounds}
 use Rattle.job_rules.proofs.InsideLemmas.{AreBelow, below_push, IsNarrowScope, narrow_scope, stays_inside, box_some}
 use Rattle.job_rules.specs.Points.{Point, InBox}
@@ -157,6 +158,8 @@ module _ (old new : Checked) (grows : Grows old new) where
     target_inside = inside_still n.vars n.target fits.target_inside;
     reads = All-map (ReadFits old n.target) (ReadFits new n.target) (refs_of levels n.body) (read_still n.target) fits.reads;
     reads_inside = All-map (StaysInside old n.vars) (StaysInside new n.vars) (refs_of levels n.body) (inside_still n.vars) fits.reads_inside;
+    terms = fits.terms;
+    references = fits.references;
   }
 
 pub there_push : (job : Checked) (known : Known) (name : List ℕ) (what : Named) → AreThere job known → IsThere job what → AreThere job (known ++ (name, what) ∷ [])
@@ -386,6 +389,9 @@ shape_fits shape.ListTwo h = tt
 shape_fits shape.Jagged h = tt
 shape_fits (shape.Permute file) h = tt
 
+few_references : (size : ℕ) → nat_lt 4 size ≡ false → size ≤ 4
+few_references size h = grind (arith, nat_tests)
+
 not_col : (a b c : Bool) → not (a && (b || c)) ≡ true → c ≡ true → a ≡ false
 not_col false b c h is = refl
 not_col true true c h is = absurd cc
@@ -557,7 +563,7 @@ module _ (s : State) (sound : Sound s) where
       print_joins s sound _ (dense_at s.job (number_of (lookup name s.names)) has sound.job.arrays (rule_not (form.Print name) none 8 (omega arith)))
 
   step_nest : (nest : RawNest) (line : ℕ) → Unbroken (form.Nest nest) → Sound (after s line (form.Nest nest))
-  unfolding has_other_kind has_sparse_target is_too_wide nest_in ref_of checked_ref narrow_ref reads_elsewhere leaves_box ranges_of
+  unfolding has_other_kind has_sparse_target is_too_wide nest_in ref_of checked_ref narrow_ref reads_elsewhere leaves_box ranges_of has_too_many_terms
   step_nest nest line none =
       let wide = looked s nest in
       let last = or_parts (nat_le 32 (length s.job.nests) || is_too_wide (ranges_of wide) wide) (has_too_many_terms nest) (rule_not (form.Nest nest) none 12 (omega arith)) in
@@ -584,6 +590,7 @@ module _ (s : State) (sound : Sound s) where
         narrow = none_mapped ref_is_wide (ref_of scope) raw narrow_reads.1 k d within;
       }) in
       let few_vars : length wide.spans ≤ 4 = grind (arith, nat_tests, counts.0) in
+      let many = or_parts (nat_lt 16 (length (terms_of levels nest.body))) (list_any (nat_lt 4) (terms_of levels nest.body)) last.1 in
       let scope_narrow = narrow_scope s.names nest.vars s.job.extents sound.plain (omega (arith, vars, few_vars)) in
       let in_box : (p : Point) → InSpans (map (checked_span scope) nest.vars) p → InBox (ranges_of wide) p = (λ p inside. subst (λ r. InBox r p) (sym (ranges_are scope nest.vars)) inside) in
       let boxed = rule_not (form.Nest nest) none 7 (omega arith) in
@@ -595,6 +602,8 @@ module _ (s : State) (sound : Sound s) where
         vars = omega arith;
         spans = All-mapped (IsNear scope) SpanFits (checked_span scope) nest.vars (λ var close. span_fits scope var close) (near_bounds scope nest narrow.1);
         guards = omega arith;
+        terms = subst (λ l. length l ≤ 16) (sym (sizes_are scope levels nest.body)) (grind (arith, nat_tests, many.0));
+        references = subst (All (λ size. size ≤ 4)) (sym (sizes_are scope levels nest.body)) (none_all (nat_lt 4) (λ size. size ≤ 4) few_references (terms_of levels nest.body) many.1);
         target_inside = λ p inside. ref_inside s.job scope (ranges_of wide) nest.target p scope_narrow (in_box p inside) has fourth.1 (leaves_none s.job (ranges_of wide) wide.target wide.reads p (in_box p inside) boxed).0;
         reads_inside = subst (All (StaysInside s.job (map (checked_span scope) nest.vars))) (sym (refs_are scope levels nest.body))
             (All-mapped (λ ref. Rests (ref_of scope ref)) (StaysInside s.job (map (checked_span scope) nest.vars)) (checked_ref scope) raw

@@ -14,7 +14,8 @@ use Rattle.job_rules.specs.declared.items.Item.{Item}
 use Rattle.job_rules.specs.Sums.{Sum, variable_of, coefficient_part, coefficient_of, constant_of, agrees_at, same_form, is_within}
 use Rattle.job_rules.specs.Looked.{Scope, reads_of, product_reads, factor_reads}
 use Rattle.job_rules.specs.After.{narrow_of, checked_ref, checked_factor, checked_product, checked_expr}
-use Rattle.job_rules.specs.Accepted.{refs_of, product_refs, factor_refs}
+use Rattle.job_rules.specs.Accepted.{refs_of, product_refs, factor_refs, sizes_of, product_sizes, factor_sizes}
+use Rattle.job_rules.specs.Terms.{choices, terms_of, product_terms, factor_terms}
 
 abbrev Agree : Sum → Sum → ℕ → Type 0
 Agree a b v = int_eq (coefficient_of v a) (coefficient_of v b) ≡ true
@@ -102,3 +103,38 @@ module _ (scope : Scope) where
       ap (λ x. flat_map (product_refs (refs_of n)) x.sums) (out-roll-Expr (record { sums = sums }))
       ∙ flat-map (checked_product scope (checked_expr scope n)) (product_refs (refs_of n)) (out-RawExpr e).sums
       ∙ map-flat (checked_ref scope) (product_reads (reads_of n)) (λ p. product_refs (refs_of n) (checked_product scope (checked_expr scope n) p)) (product_refs_are n (refs_are n)) (out-RawExpr e).sums
+
+fold-map : {A B C : Type 0} (k : A → B) (h : C → B → C) (start : C) (xs : List A) → fold h start (map k xs) ≡ fold (λ c x. h c (k x)) start xs
+fold-map k h start [] = refl
+fold-map k h start (x ∷ xs) = fold-map k h (h start (k x)) xs
+
+fold-same : {A C : Type 0} (g h : C → A → C) → ((c : C) (x : A) → g c x ≡ h c x) → (start : C) (xs : List A) → fold g start xs ≡ fold h start xs
+fold-same g h each start [] = refl
+fold-same g h each start (x ∷ xs) = ap (λ c. fold g c xs) (each start x) ∙ fold-same g h each (h start x) xs
+
+flat-same : {A C : Type 0} (f g : A → List C) → ((x : A) → f x ≡ g x) → (xs : List A) → flat_map f xs ≡ flat_map g xs
+flat-same f g each [] = refl
+flat-same f g each (x ∷ xs) = ap (λ l. l ++ flat_map f xs) (each x) ∙ ap (λ l. g x ++ l) (flat-same f g each xs)
+
+-- an expression with numbers has the same terms
+module _ (scope : Scope) where
+  factor_sizes_are : (n : ℕ) → ((e : RawExpr) → sizes_of n (checked_expr scope n e) ≡ terms_of n e) → (x : RawFactor)
+      → factor_sizes (sizes_of n) (checked_factor scope (checked_expr scope n) x) ≡ factor_terms (terms_of n) x
+  factor_sizes_are n inner (factor.Num number) = refl
+  factor_sizes_are n inner (factor.Read ref) = refl
+  factor_sizes_are n inner (factor.Group e) = inner e
+
+  product_sizes_are : (n : ℕ) → ((e : RawExpr) → sizes_of n (checked_expr scope n e) ≡ terms_of n e) → (p : RawProduct)
+      → product_sizes (sizes_of n) (checked_product scope (checked_expr scope n) p) ≡ product_terms (terms_of n) p
+  unfolding checked_product
+  product_sizes_are n inner p = fold-map (checked_factor scope (checked_expr scope n)) (λ terms f. choices terms (factor_sizes (sizes_of n) f)) (0 ∷ []) p.factors
+      ∙ fold-same (λ terms x. choices terms (factor_sizes (sizes_of n) (checked_factor scope (checked_expr scope n) x))) (λ terms x. choices terms (factor_terms (terms_of n) x)) (λ terms x. ap (choices terms) (factor_sizes_are n inner x)) (0 ∷ []) p.factors
+
+  pub sizes_are : (n : ℕ) (e : RawExpr) → sizes_of n (checked_expr scope n e) ≡ terms_of n e
+  unfolding sizes_of terms_of checked_expr
+  sizes_are zero e = refl
+  sizes_are (suc n) e =
+      let sums = map (checked_product scope (checked_expr scope n)) (out-RawExpr e).sums in
+      ap (λ x. flat_map (product_sizes (sizes_of n)) x.sums) (out-roll-Expr (record { sums = sums }))
+      ∙ flat-map (checked_product scope (checked_expr scope n)) (product_sizes (sizes_of n)) (out-RawExpr e).sums
+      ∙ flat-same (λ p. product_sizes (sizes_of n) (checked_product scope (checked_expr scope n) p)) (product_terms (terms_of n)) (product_sizes_are n (sizes_are n)) (out-RawExpr e).sums

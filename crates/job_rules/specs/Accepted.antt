@@ -20,6 +20,7 @@ use Rattle.bern_base.specs.declared.raw.JobText.{JobText}
 use Rattle.job_rules.specs.State.{shape_dims, is_by_row, is_all_dense, is_col}
 use Rattle.job_rules.specs.First.{Accepts}
 use Rattle.job_rules.specs.Looked.{levels}
+use Rattle.job_rules.specs.Terms.{choices}
 use Rattle.job_rules.specs.Points.{Point, InBox}
 use Rattle.job_rules.specs.declared.ranges.Range.{Range}
 
@@ -64,6 +65,20 @@ module _ (inner : Expr → List Ref) where
 unfoldable pub refs_of : ℕ → Expr → List Ref
 refs_of zero e = []
 refs_of (suc n) e = flat_map (product_refs (refs_of n)) (out-Expr e).sums
+
+-- for each term of an expression, in order, how many references it has; `inner` is that list for what stands in parentheses
+module _ (inner : Expr → List ℕ) where
+  abbrev pub factor_sizes : Factor → List ℕ
+  factor_sizes (checked.Num n) = 0 ∷ []
+  factor_sizes (checked.Read ref) = 1 ∷ []
+  factor_sizes (checked.Group e) = inner e
+
+  abbrev pub product_sizes : Product → List ℕ
+  product_sizes product = fold (λ terms f. choices terms (factor_sizes f)) (0 ∷ []) product.factors
+
+unfoldable pub sizes_of : ℕ → Expr → List ℕ
+sizes_of zero e = []
+sizes_of (suc n) e = flat_map (product_sizes (sizes_of n)) (out-Expr e).sums
 
 -- the subscript on the axis by which an array is dealt
 abbrev pub split_form : ArrayDecl → Ref → AffineForm
@@ -112,6 +127,8 @@ pub record NestFits (job : Checked) (nest : Nest) : Type 0 where
   pub target_inside : StaysInside job nest.vars nest.target
   pub reads : All (ReadFits job nest.target) (refs_of levels nest.body)
   pub reads_inside : All (StaysInside job nest.vars) (refs_of levels nest.body)
+  pub terms : length (sizes_of levels nest.body) ≤ 16
+  pub references : All (λ size. size ≤ 4) (sizes_of levels nest.body)
 
 pub record Fits (job : Checked) : Type 0 where
   pub extent_count : length job.extents ≤ 32
