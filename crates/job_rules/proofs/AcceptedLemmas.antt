@@ -22,7 +22,7 @@ use Rattle.job_rules.specs.declared.names.Named.{Named}
 use Rattle.job_rules.specs.declared.names.Named.TheVariants as named
 use Rattle.job_rules.specs.Known.{Known, lookup}
 use Rattle.job_rules.specs.State.{State, start, is_extent, is_place, is_format, is_array, number_of, shape_at, is_all_dense, shape_dims, is_by_row, is_col, is_known}
-use Rattle.job_rules.specs.Nests.{facts_at, no_array, has_other_kind, has_sparse_target, is_too_wide, ranges_of, ref_is_wide, guard_is_wide, is_far, ref_of_other_kind, ref_fails, is_no_count, facts_of, lies_elsewhere, is_aligned, reads_elsewhere, leaves_array, leaves_box, leaves_extent, is_box_empty, range_of}
+use Rattle.job_rules.specs.Nests.{facts_at, no_array, has_other_kind, has_sparse_target, is_too_wide, ranges_of, ref_is_wide, guard_is_wide, is_far, ref_of_other_kind, ref_fails, is_no_count, facts_of, lies_elsewhere, is_aligned, reads_elsewhere, leaves_array, leaves_box, leaves_extent, is_box_empty, range_of, is_one_to_one, reads_target, reads_target_otherwise}
 use Rattle.job_rules.specs.Looked.{scope_of, named_in, variables_of, with_variable, nest_in, ref_of, span_of, guard_of, Scope, levels, reads_of, sum_of, subscript}
 use Rattle.job_rules.specs.First.{AcceptsFrom}
 use Rattle.job_rules.proofs.ListLemmas.{none_all}
@@ -48,7 +48,7 @@ use Rattle.bern_base.specs.declared.raw.RawVar.{RawVar}
 use Rattle.bern_base.specs.declared.job.Shape.TheVariants as shaped
 use Rattle.job_rules.specs.Rules.{broken_rule, breaks, table, is_no_size, kind_past_limit, shape_past_limit, fits_shape, some_no_extent, looked, has_too_many_terms}
 use Rattle.job_rules.specs.After.{after, with_extent, with_place, with_format, with_array, kind_of, shape_of, checked_nest, checked_ref, checked_span, checked_guard, narrow_ref, narrow_of, IsNear}
-use Rattle.job_rules.specs.Accepted.{Has, IsSize, KindFits, ShapeFits, PlaceFits, ArrayFits, IsDenseIn, NestFits, Fits, AcceptedJobsFit, ReadFits, LiesAt, SpanFits, refs_of, StaysInside, InSpans, IsIndex, form_value, span_values}
+use Rattle.job_rules.specs.Accepted.{Has, IsSize, KindFits, ShapeFits, PlaceFits, ArrayFits, IsDenseIn, NestFits, Fits, AcceptedJobsFit, ReadFits, LiesAt, SpanFits, refs_of, StaysInside, InSpans, IsIndex, form_value, span_values, ReadsOwn}
 
 not_false : (b : Bool) → not b ≡ false → b ≡ true
 not_false true h = refl
@@ -158,6 +158,7 @@ module _ (old new : Checked) (grows : Grows old new) where
     target_inside = inside_still n.vars n.target fits.target_inside;
     reads = All-map (ReadFits old n.target) (ReadFits new n.target) (refs_of levels n.body) (read_still n.target) fits.reads;
     reads_inside = All-map (StaysInside old n.vars) (StaysInside new n.vars) (refs_of levels n.body) (inside_still n.vars) fits.reads_inside;
+    own = fits.own;
     terms = fits.terms;
     references = fits.references;
   }
@@ -502,6 +503,19 @@ leaves_none job ranges target reads p inside none =
     let some : not (is_box_empty ranges) ≡ true = ap not (box_some ranges p inside) in
     or_parts (leaves_array job ranges target) (list_any (leaves_array job ranges) reads) (sym (ap (λ b. b && (leaves_array job ranges target || list_any (leaves_array job ranges) reads)) some) ∙ none)
 
+-- a reference to the target's array has the target's forms
+own_forms : (one_to_one : Bool) (target ref : WideRef) → (number_of ref.array == number_of target.array && (not one_to_one || not (same_form ref.row target.row && same_form ref.col target.col))) ≡ false
+    → ref_is_wide target ≡ false → ref_is_wide ref ≡ false → ReadsOwn (narrow_ref target) (narrow_ref ref)
+unfolding narrow_ref
+own_forms one_to_one target ref otherwise target_narrow ref_narrow same =
+    let e : (number_of ref.array == number_of target.array) ≡ true = grind (arith, nat_tests) in
+    let rest : (not one_to_one || not (same_form ref.row target.row && same_form ref.col target.col)) ≡ false =
+    sym (ap (λ b. b && (not one_to_one || not (same_form ref.row target.row && same_form ref.col target.col))) e) ∙ otherwise in
+    let forms = and_parts (same_form ref.row target.row) (same_form ref.col target.col) (not_false (same_form ref.row target.row && same_form ref.col target.col) (or_parts (not one_to_one) (not (same_form ref.row target.row && same_form ref.col target.col)) rest).1) in
+    let mine = or_parts (not (is_within ref.row)) (not (is_within ref.col)) ref_narrow in
+    let theirs = or_parts (not (is_within target.row)) (not (is_within target.col)) target_narrow in
+    (same_narrow ref.row target.row (not_false (is_within ref.row) mine.0) (not_false (is_within target.row) theirs.0) forms.0, same_narrow ref.col target.col (not_false (is_within ref.col) mine.1) (not_false (is_within target.col) theirs.1) forms.1)
+
 -- one reference, at one point
 ref_inside : (job : Checked) (scope : Scope) (ranges : List Range) (ref : RawRef) (p : Point) → IsNarrowScope scope → InBox ranges p → Has job.arrays (number_of (ref_of scope ref).array) (λ a. Unit {0}) → ref_is_wide (ref_of scope ref) ≡ false
     → leaves_array job ranges (ref_of scope ref) ≡ false → Has job.arrays (checked_ref scope ref).array (λ a. IsIndex a.rows (form_value p (checked_ref scope ref).row) × IsIndex a.cols (form_value p (checked_ref scope ref).col))
@@ -563,7 +577,7 @@ module _ (s : State) (sound : Sound s) where
       print_joins s sound _ (dense_at s.job (number_of (lookup name s.names)) has sound.job.arrays (rule_not (form.Print name) none 8 (omega arith)))
 
   step_nest : (nest : RawNest) (line : ℕ) → Unbroken (form.Nest nest) → Sound (after s line (form.Nest nest))
-  unfolding has_other_kind has_sparse_target is_too_wide nest_in ref_of checked_ref narrow_ref reads_elsewhere leaves_box ranges_of has_too_many_terms
+  unfolding has_other_kind has_sparse_target is_too_wide nest_in ref_of checked_ref narrow_ref reads_elsewhere leaves_box ranges_of has_too_many_terms reads_target_otherwise
   step_nest nest line none =
       let wide = looked s nest in
       let last = or_parts (nat_le 32 (length s.job.nests) || is_too_wide (ranges_of wide) wide) (has_too_many_terms nest) (rule_not (form.Nest nest) none 12 (omega arith)) in
@@ -591,6 +605,9 @@ module _ (s : State) (sound : Sound s) where
       }) in
       let few_vars : length wide.spans ≤ 4 = grind (arith, nat_tests, counts.0) in
       let many = or_parts (nat_lt 16 (length (terms_of levels nest.body))) (list_any (nat_lt 4) (terms_of levels nest.body)) last.1 in
+      let one_to_one = is_one_to_one (ranges_of wide) wide in
+      let Owns : WideRef → Type 0 = (λ ref. Kept s.job wide.target ref × (reads_target one_to_one wide ref ≡ false)) in
+      let owned : All (λ ref. Owns (ref_of scope ref)) raw = (λ k d within. (kept k d within, none_mapped (reads_target one_to_one wide) (ref_of scope) raw (rule_not (form.Nest nest) none 9 (omega arith)) k d within)) in
       let scope_narrow = narrow_scope s.names nest.vars s.job.extents sound.plain (omega (arith, vars, few_vars)) in
       let in_box : (p : Point) → InSpans (map (checked_span scope) nest.vars) p → InBox (ranges_of wide) p = (λ p inside. subst (λ r. InBox r p) (sym (ranges_are scope nest.vars)) inside) in
       let boxed = rule_not (form.Nest nest) none 7 (omega arith) in
@@ -602,6 +619,8 @@ module _ (s : State) (sound : Sound s) where
         vars = omega arith;
         spans = All-mapped (IsNear scope) SpanFits (checked_span scope) nest.vars (λ var close. span_fits scope var close) (near_bounds scope nest narrow.1);
         guards = omega arith;
+        own = subst (All (ReadsOwn (checked_ref scope nest.target))) (sym (refs_are scope levels nest.body))
+            (All-mapped (λ ref. Owns (ref_of scope ref)) (ReadsOwn (checked_ref scope nest.target)) (checked_ref scope) raw (λ ref owns. own_forms one_to_one wide.target (ref_of scope ref) owns.1 fourth.1 owns.0.narrow) owned);
         terms = subst (λ l. length l ≤ 16) (sym (sizes_are scope levels nest.body)) (grind (arith, nat_tests, many.0));
         references = subst (All (λ size. size ≤ 4)) (sym (sizes_are scope levels nest.body)) (none_all (nat_lt 4) (λ size. size ≤ 4) few_references (terms_of levels nest.body) many.1);
         target_inside = λ p inside. ref_inside s.job scope (ranges_of wide) nest.target p scope_narrow (in_box p inside) has fourth.1 (leaves_none s.job (ranges_of wide) wide.target wide.reads p (in_box p inside) boxed).0;

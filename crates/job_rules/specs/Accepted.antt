@@ -93,6 +93,10 @@ pub record LiesAt (job : Checked) (target ref : Ref) : Type 0 where
   pub place : own.place ≡ other.place
   pub same : split_form own ref ≡ split_form other target
 
+-- the target's array is read at the target alone
+abbrev pub ReadsOwn : Ref → Ref → Type 0
+ReadsOwn target ref = ref.array ≡ target.array → (ref.row ≡ target.row) × (ref.col ≡ target.col)
+
 -- what a nest reads is there, and is dense or lies where the target lies
 abbrev pub ReadFits : Checked → Ref → Ref → Type 0
 ReadFits job target ref = Has job.arrays ref.array (λ a. Unit {0}) × (IsDenseIn job ref.array ⊎ LiesAt job target ref)
@@ -127,6 +131,7 @@ pub record NestFits (job : Checked) (nest : Nest) : Type 0 where
   pub target_inside : StaysInside job nest.vars nest.target
   pub reads : All (ReadFits job nest.target) (refs_of levels nest.body)
   pub reads_inside : All (StaysInside job nest.vars) (refs_of levels nest.body)
+  pub own : All (ReadsOwn nest.target) (refs_of levels nest.body)
   pub terms : length (sizes_of levels nest.body) ≤ 16
   pub references : All (λ size. size ≤ 4) (sizes_of levels nest.body)
 
