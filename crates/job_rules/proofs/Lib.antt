@@ -1,0 +1,14 @@
+pub mod NameLemmas
+pub mod IntLemmas
+pub mod ListLemmas
+pub mod LookedLemmas
+pub mod TermLemmas
+pub mod SumLemmas
+pub mod NestLemmas
+pub mod WalkLemmas
+pub mod ProductLemmas
+pub mod BoxLemmas
+pub mod FormLemmas
+pub mod InsideLemmas
+pub mod AcceptedLemmas
+pub mod AnswerLemmas

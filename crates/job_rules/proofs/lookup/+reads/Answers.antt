@@ -1,0 +1,19 @@
+use Rattle.std.proofs.Common.{arith, rules, subst}
+use Rattle.std.specs.List.{All}
+use Rattle.bern_base.specs.declared.raw.RawExpr.{out-RawExpr}
+use Rattle.job_rules.specs.Looked.{IsReadableRef, reads_of, product_reads, factor_reads}
+use Rattle.job_rules.proofs.ListLemmas.{all_at}
+use Rattle.job_rules.proofs.LookedLemmas.{reads_of-pos}
+use Rattle.job_rules.proofs.lookup.+reads.Goals as goal
+
+pub add_factor_reads-reference-requires : goal.add_factor_reads-reference-requires
+add_factor_reads-reference-requires t c = (rw c.in-Read.is at c.requires) 0 c.in-Read.reference (omega arith)
+
+pub add_product_reads-add_factor_reads-requires : goal.add_product_reads-add_factor_reads-requires
+add_product_reads-add_factor_reads-requires t c =
+    (search rules, all_at IsReadableRef (factor_reads (reads_of c.args.levels)) c.args.product.now.factors _ _ _ c.factor-item.is c.as_slice-factor-items.ensures c.loop-factor-test.true c.requires)
+
+pub add_reads-add_product_reads-requires : goal.add_reads-add_product_reads-requires
+add_reads-add_product_reads-requires t c =
+    let all = subst (All IsReadableRef) (reads_of-pos c.args.levels c.args.expr.now (omega arith)) c.requires in
+    (search rules, all_at IsReadableRef (product_reads (reads_of _)) (out-RawExpr c.args.expr.now).sums _ _ _ c.product-item.is c.as_slice-product-items.ensures c.loop-product-test.true all)

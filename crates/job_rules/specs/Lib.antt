@@ -1,0 +1,11 @@
+pub mod Known
+pub mod State
+pub mod Sums
+pub mod Looked
+pub mod Terms
+pub mod Nests
+pub mod Rules
+pub mod After
+pub mod First
+pub mod Points
+pub mod Accepted

@@ -1,0 +1,5 @@
+pub mod Elements
+pub mod Nests
+pub mod Points
+pub mod Runnable
+pub mod Values

@@ -1,0 +1,5 @@
+pub mod BoxLemmas
+pub mod ExprLemmas
+pub mod SparseLemmas
+pub mod StateLemmas
+pub mod WalkLemmas

@@ -1,0 +1,19 @@
+//! A plain evaluator of nests: it walks all points of each nest in program order.
+#![tactic(auto)]
+
+mod arrays;
+mod arrays_of;
+mod elements;
+mod expressions;
+mod guards;
+mod runnable;
+mod runs;
+mod sparse;
+#[cfg(test)]
+mod tests;
+mod walk;
+
+pub use arrays::ArrayValues;
+pub use arrays_of::are_arrays_of;
+pub use runnable::is_runnable;
+pub use runs::run_nests;
