@@ -1,1 +1,2 @@
+pub mod BoxLaws
 pub mod Examples

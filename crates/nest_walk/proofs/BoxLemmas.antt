@@ -1,10 +1,10 @@
 -- Boxes and the indices that forms give in them.
-use Rattle.std.proofs.Common.{◌≡◌, ◌∙◌, ◌↔◌, ℕ, zero, suc, ◌*◌, ◌<◌, Bool, true, false, List, ℤ, pos, ◌≤ℤ◌, ◌<ℤ◌, length, get_or, refl, sym, subst, arith}
+use Rattle.std.proofs.Common.{◌≡◌, ◌∙◌, ◌↔◌, ℕ, zero, suc, ◌*◌, ◌<◌, Bool, true, false, List, ℤ, pos, ◌≤ℤ◌, ◌<ℤ◌, length, refl, sym, subst, arith}
 use Rattle.std.specs.List.{All}
 use Rattle.std.proofs.lemmas.Int.{ints}
 use Rattle.std.proofs.lemmas.List.{get_or_default}
 use Rattle.std.proofs.lemmas.List.FromFn.{length-map-range_with_len}
-use Rattle.bern_base.specs.Affine.{AffineForm, IsSpan, IsInSpan, IsInBox, IsReached, IsBetween, number_of, span_of, value_at}
+use Rattle.bern_base.specs.Affine.{AffineForm, IsSpan, IsInSpan, IsInBox, IsReached, IsBetween, number_of, span_of}
 use Rattle.bern_base.specs.declared.job.ArrayDecl.{ArrayDecl}
 use Rattle.bern_base.specs.declared.job.Checked.{Checked}
 use Rattle.bern_base.specs.declared.matrix.Matrix.{Matrix}

@@ -1,5 +1,6 @@
 pub mod BoxLemmas
 pub mod ExprLemmas
+pub mod FirstLemmas
 pub mod SparseLemmas
 pub mod StateLemmas
 pub mod WalkLemmas

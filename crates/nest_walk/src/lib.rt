@@ -5,6 +5,7 @@ mod arrays;
 mod arrays_of;
 mod elements;
 mod expressions;
+mod first;
 mod guards;
 mod runnable;
 mod runs;
@@ -15,5 +16,6 @@ mod walk;
 
 pub use arrays::ArrayValues;
 pub use arrays_of::are_arrays_of;
+pub use first::{dense_values, zero_values};
 pub use runnable::is_runnable;
 pub use runs::run_nests;

@@ -4,7 +4,7 @@ ghost use Rattle.dense_model.specs.State.{element};
 
 use bern_base::{Entry, Matrix, Val};
 
-fn number_of(cols: u32, entry: &Entry) -> u64
+pub(crate) fn number_of(cols: u32, entry: &Entry) -> u64
     ensures { result ≡ number cols entry.now }
 {
     entry.row as u64 * cols as u64 + entry.col as u64

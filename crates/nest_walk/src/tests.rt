@@ -1,7 +1,7 @@
 use super::*;
 use bern_base::{
     Affine, ArrayDecl, Axis, Checked, Entry, Expr, Factor, FormatDecl, Guard, Items, Matrix, Nest,
-    NoMemory, Product, Ref, Rel, Shape, Span, Text, Val,
+    NoMemory, Product, Ref, Rel, Shape, Span, Text, Val, is_matrix,
 };
 use std::alloc::Global;
 use std::process::Abort;
@@ -190,16 +190,19 @@ fn two_nests_decls(alloc: Global) -> Result<Vec<ArrayDecl>, NoMemory> {
     Ok(decls)
 }
 
-fn product_arrays(alloc: Global) -> Result<Vec<ArrayValues>, NoMemory> {
+fn matrix(alloc: Global) -> Result<Matrix, NoMemory> {
     let entries = vec![in alloc; entry(0, 0, 2), entry(0, 2, 1), entry(2, 1, 5)]?;
-    let a = Matrix {
+    Ok(Matrix {
         rows: 3,
         cols: 3,
         entries: Items::from_vec(entries),
-    };
-    let mut arrays = vec![in alloc; ArrayValues::Sparse(a)]?;
+    })
+}
+
+fn product_arrays(alloc: Global, a: ArrayValues) -> Result<Vec<ArrayValues>, NoMemory> {
+    let mut arrays = vec![in alloc; a]?;
     arrays.push(dense(alloc, &[1, 2, 3])?)?;
-    arrays.push(dense(alloc, &[0, 0, 0])?)?;
+    arrays.push(zero_values(alloc, 3)?)?;
     Ok(arrays)
 }
 
@@ -211,12 +214,16 @@ fn two_nests_arrays(alloc: Global) -> Result<Vec<ArrayValues>, NoMemory> {
 }
 
 #[test]
-fn a_sparse_matrix_times_a_vector(rt: HostRuntime) -> Result<(), Fail> {
+fn a_matrix_times_a_vector_by_entries_and_by_elements(rt: HostRuntime) -> Result<(), Fail> {
     let alloc = rt.alloc();
     let nests = vec![in alloc; product_nest(alloc)?]?;
     let job = job(alloc, product_decls(alloc)?, nests)?;
-    let mut arrays = product_arrays(alloc)?;
-    leaves(&rt, "Y", &job, arrays.as_mut_slice(), 2, &[5, 0, 10]);
+    let a = matrix(alloc)?;
+    assert!(rt; is_matrix(&a), "A");
+    let mut whole = product_arrays(alloc, dense_values(alloc, &a)?)?;
+    let mut sparse = product_arrays(alloc, ArrayValues::Sparse(a))?;
+    leaves(&rt, "whole", &job, whole.as_mut_slice(), 2, &[5, 0, 10]);
+    leaves(&rt, "sparse", &job, sparse.as_mut_slice(), 2, &[5, 0, 10]);
     Ok(())
 }
 

@@ -1,4 +1,4 @@
-use Rattle.std.proofs.Common.{refl, ◌∙◌, sym}
+use Rattle.std.proofs.Common.{refl}
 use Rattle.nest_walk.proofs.BoxLemmas.{all_spans, points_in_box}
 use Rattle.nest_walk.proofs.runnable.is_index.Goals as goal
 

@@ -1,6 +1,5 @@
-use Rattle.std.proofs.Common.{◌∙◌, sym, ap, subst}
+use Rattle.std.proofs.Common.{◌∙◌, sym, subst}
 use Rattle.std.specs.List.{All}
-use Rattle.nest_model.specs.Points.{spans_of}
 use Rattle.nest_model.specs.Runnable.{IsNear}
 use Rattle.nest_walk.specs.Walks.{AreNear}
 use Rattle.nest_walk.proofs.WalkLemmas.{near_spans}
