@@ -1,15 +1,12 @@
 -- Answers of a run, from those of what it does next.
-use Rattle.std.proofs.Common.{◌≡◌, ℕ, ◌≤◌, List, Bool, MatchOption, Some, None, Option, Ok, Err, Result, IfSome, IsTrue, sym, ap, ◌∙◌, subst, inl, inr, arith}
-use Rattle.bern_base.specs.declared.matrix.Matrix.{Matrix}
+use Rattle.std.proofs.Common.{◌≡◌, ℕ, List, MatchOption, Some, Option, Ok, Err, Result, sym, ap, ◌∙◌, subst, inl, inr}
 use Rattle.bern_base.specs.declared.refusal.Refusal.{Refusal}
-use Rattle.bern_ports.specs.Causes.{Rose}
 use Rattle.bern_ports.specs.Files.{Files, bytes_of}
-use Rattle.bern_top.specs.declared.load_error.LoadError.{LoadError}
-use Rattle.bern_top.specs.declared.load_error.LoadError.TheVariants as e
-use Rattle.bern_top.specs.Answers.{EndsOnly, Agrees, BlamesOne, IsBlamed, RoseAtFault, HasFaultCause, IsFaultAt, IsRefusalOf, IsOnly, IsAnswer, LoadsArray}
-use Rattle.bern_top.specs.Walk.{Ending, Done, Refuses, Absent, Reads, Spells, HasMatrix, array_ending}
-use Rattle.bern_top.proofs.LoadingLemmas.{array_is}
-use Rattle.bern_top.proofs.WritingLemmas.{rose_again}
+use Rattle.file_walk.specs.declared.load_error.LoadError.{LoadError}
+use Rattle.file_walk.specs.declared.load_error.LoadError.TheVariants as e
+use Rattle.file_walk.specs.Answers.{IsFaultAt, IsRefusalOf}
+use Rattle.bern_top.specs.Answers.{EndsOnly, Agrees, IsOnly, IsAnswer}
+use Rattle.bern_top.specs.Walk.{Ending, Done, Refuses, Absent, Reads, Spells}
 
 -- nothing is spelled: the refusal
 only_refused : {X : Type 0} (P : X → Type 0) (next : X → Ending → Type 0) (refusal r : Refusal) → r ≡ refusal → ((x : X) → P x → ⊥) → EndsOnly (Spells P next refusal) (Refuses r)
@@ -71,56 +68,3 @@ answer_agrees ending comes (Ok text) is = ends_so ending (Done text) is
 answer_agrees ending comes (Err (e.Refused r)) is = ends_so ending (Refuses r) is
 answer_agrees ending comes (Err (e.ReadFault file)) is = is
 answer_agrees ending comes (Err e.NoMemory) is = tt
-
--- the same with another name for the end, and where more names are come to
-pub answer_so : (ending end : Ending) (comes more : List ℕ → Type 0) (result : Result (List ℕ) LoadError) → ending ≡ end → ((n : List ℕ) → comes n → more n) → IsAnswer end comes result → IsAnswer ending more result
-answer_so ending end comes more (Ok text) same wider is = same ∙ is
-answer_so ending end comes more (Err (e.Refused r)) same wider is = same ∙ is
-answer_so ending end comes more (Err (e.ReadFault file)) same wider is = wider file is
-answer_so ending end comes more (Err e.NoMemory) same wider is = tt
-
--- an array whose matrix was loaded, and one that was not
-pub array_answer : (files : Files) (name : List ℕ) (rows cols : ℕ) (m : Matrix) (next : Matrix → Ending) (comes more : List ℕ → Type 0) (result : Result (List ℕ) LoadError) →
-    HasMatrix files name rows cols m → ((n : List ℕ) → comes n → more n) → IsAnswer (next m) comes result → IsAnswer (array_ending files name rows cols next) more result
-array_answer files name rows cols m next comes more result has wider is =
-    answer_so (array_ending files name rows cols next) (next m) comes more result (array_is files name rows cols m next has) wider is
-
-pub fault_answer : (files : Files) (name : List ℕ) (rows cols : ℕ) (next : Matrix → Ending) (comes : List ℕ → Type 0) (fault : LoadError) →
-    comes name → LoadsArray files name rows cols (Err fault) → IsAnswer (array_ending files name rows cols next) comes (Err fault)
-fault_answer files name rows cols next comes (e.Refused r) there loads = loads next
-fault_answer files name rows cols next comes (e.ReadFault file) there loads = subst comes (sym loads) there
-fault_answer files name rows cols next comes e.NoMemory there loads = tt
-
--- counts over two calls
-rose_before : {T : Type 0} (k m n : ℕ) (result : Result T LoadError) → k ≤ m → RoseAtFault m n result → RoseAtFault k n result
-rose_before k m n (Ok x) up rose = rose
-rose_before k m n (Err (e.Refused r)) up rose = rose
-rose_before k m n (Err (e.ReadFault file)) up rose = rose_again k m n up rose
-rose_before k m n (Err e.NoMemory) up rose = rose
-
-pub cause_before : {T : Type 0} (k m n : ℕ) (result : Result T LoadError) → k ≤ m → HasFaultCause m n result → HasFaultCause k n result
-cause_before k m n result up cause = record { later = up_to k m n up cause.later; fault = rose_before k m n result up cause.fault }
-  where
-    up_to : (a b c : ℕ) → a ≤ b → b ≤ c → a ≤ c
-    up_to a b c first second = omega (arith, first, second)
-
--- two facts on what is told
-pub told_both : {X : Type 0} (told now : Option X) (P Q R : X → Type 0) → now ≡ told → ((x : X) → P x → Q x → R x) → IfSome told P → IfSome now Q → IfSome told R
-told_both told now P Q R same both first second = with_both told P Q R both first (subst (λ o. IfSome o Q) same second)
-  where
-    with_both : {X : Type 0} (o : Option X) (P Q R : X → Type 0) → ((x : X) → P x → Q x → R x) → IfSome o P → IfSome o Q → IfSome o R
-    with_both None P Q R both first second = tt
-    with_both (Some x) P Q R both first second = both x first second
-
--- counts by name over two calls, where the first leaves all
-is_blamed_before : (fs : Files) (sure before : Bool) (k m n : List ℕ → ℕ) (file : List ℕ) → sure ≡ before → ((x : List ℕ) → m x ≡ k x) → IsBlamed fs sure m n file → IsBlamed fs before k n file
-is_blamed_before fs sure before k m n file same_sure same blamed = (
-  λ there. (subst (λ c. Rose c (n file)) (same file) (blamed.0 there).0, subst (λ s. IsTrue s → ⊥) same_sure (blamed.0 there).1),
-  λ x other. blamed.1 x other ∙ same x,
-)
-
-pub blames_before : {T : Type 0} (fs : Files) (sure before : Bool) (k m n : List ℕ → ℕ) (result : Result T LoadError) → sure ≡ before → ((x : List ℕ) → m x ≡ k x) → BlamesOne sure m n result fs → BlamesOne before k n result fs
-blames_before fs sure before k m n (Ok x) same_sure same blames = λ y. blames y ∙ same y
-blames_before fs sure before k m n (Err (e.Refused r)) same_sure same blames = λ y. blames y ∙ same y
-blames_before fs sure before k m n (Err (e.ReadFault file)) same_sure same blames = is_blamed_before fs sure before k m n file same_sure same blames
-blames_before fs sure before k m n (Err e.NoMemory) same_sure same blames = tt

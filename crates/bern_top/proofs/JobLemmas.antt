@@ -1,5 +1,5 @@
 -- File names lack line feeds, and jobs by their fields.
-use Rattle.std.proofs.Common.{◌≡◌, ℕ, ◌<◌, ◌≤◌, Bool, true, false, ◌&&◌, nat_le, List, length, get_or, Some, None, Option, IfSome, sym, ap, ◌∙◌, ◌^◌, arith, decimal}
+use Rattle.std.proofs.Common.{◌≡◌, ℕ, ◌<◌, ◌≤◌, Bool, true, false, ◌&&◌, nat_le, List, length, get_or, sym, ap, ◌∙◌, ◌^◌, arith, decimal}
 use Rattle.std.proofs.lemmas.Bool.{true≢false}
 use Rattle.std.proofs.lemmas.List.Sums.{AllPass-from_list_all}
 use Rattle.std.specs.List.{list_all}
@@ -41,7 +41,3 @@ parts_of_job bytes size matrix vector j job digits first second = record {
 
 pub size_fits : (bytes : List ℕ) (j : ProductJob) → IsFixedJob bytes j → j.size < 2 ^ 64
 size_fits bytes j job = omega (arith, job.most)
-
-pub if_some_weaker : {X : Type 0} (o : Option X) (P Q : X → Type 0) → ((x : X) → P x → Q x) → IfSome o P → IfSome o Q
-if_some_weaker None P Q weaken holds = tt
-if_some_weaker (Some x) P Q weaken holds = weaken x holds

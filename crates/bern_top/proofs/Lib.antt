@@ -1,12 +1,7 @@
 pub mod WritingLemmas
 pub mod ScanLemmas
 pub mod JobLemmas
-pub mod ReadingLemmas
-pub mod LoadingLemmas
 pub mod AgreesLemmas
 pub mod CommandLemmas
 pub mod TopLemmas
-pub mod NodesLemmas
-pub mod RunLemmas
-pub mod PartsLemmas
 pub mod ProductJobLemmas

@@ -6,16 +6,17 @@ use Rattle.std.proofs.lemmas.Bool.{false≢true}
 use Rattle.bern_base.specs.declared.refusal.Refusal.{Refusal}
 use Rattle.bern_ports.specs.Causes.{Rose}
 use Rattle.bern_ports.specs.Files.{Files, bytes_of}
-use Rattle.bern_top.specs.declared.load_error.LoadError.{LoadError}
-use Rattle.bern_top.specs.declared.load_error.LoadError.TheVariants as e
-use Rattle.bern_top.specs.Answers.{Port, EndsOnly, Agrees, BlamesOne, IsBlamed, RoseAtFault, HasLine, StopsWithin}
+use Rattle.file_walk.specs.declared.load_error.LoadError.{LoadError}
+use Rattle.file_walk.specs.declared.load_error.LoadError.TheVariants as e
+use Rattle.file_walk.specs.Answers.{BlamesOne, IsBlamed, RoseAtFault}
+use Rattle.file_walk.proofs.ShelfLemmas.{if_some_weaker}
+use Rattle.bern_top.specs.Answers.{Port, EndsOnly, Agrees, HasLine, StopsWithin}
 use Rattle.bern_top.specs.Lines.{refusal_line, write_fault_line}
 use Rattle.bern_top.specs.Top.{SaysReadFault, SaysWriteFault, Faults, IsDue, IsRefused, IsVisited, IsFaultOf, IsCalm, Says, TellsFault, PrintsText}
 use Rattle.bern_top.specs.Walk.{Ending, Done, Refuses, Absent, Runs, Comes}
 use Rattle.bern_top.specs.Commands.{Command, IsCommand}
 use Rattle.bern_top.proofs.CommandLemmas.{same_command}
 use Rattle.bern_top.proofs.WritingLemmas.{port}
-use Rattle.bern_top.proofs.JobLemmas.{if_some_weaker}
 
 refusal_in : Refusal → Ending → Refusal
 refusal_in default (Done text) = default

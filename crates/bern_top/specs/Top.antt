@@ -6,9 +6,10 @@ use Rattle.bern_base.specs.declared.refusal.Refusal.{Refusal}
 use Rattle.bern_base.specs.declared.refusal.Refusal.TheVariants.{Words}
 use Rattle.bern_ports.specs.Causes.{Rose}
 use Rattle.bern_ports.specs.Files.{Files, bytes_of}
-use Rattle.bern_top.specs.declared.load_error.LoadError.{LoadError}
-use Rattle.bern_top.specs.declared.load_error.LoadError.TheVariants as e
-use Rattle.bern_top.specs.Answers.{IsBlamed, Port, StopsWithin, HasLine}
+use Rattle.file_walk.specs.declared.load_error.LoadError.{LoadError}
+use Rattle.file_walk.specs.declared.load_error.LoadError.TheVariants as e
+use Rattle.file_walk.specs.Answers.{IsBlamed}
+use Rattle.bern_top.specs.Answers.{Port, StopsWithin, HasLine}
 use Rattle.bern_top.specs.Lines.{refusal_line, read_fault_line, write_fault_line, memory_line}
 use Rattle.bern_top.specs.Asked.{IsNoCommand}
 use Rattle.bern_top.specs.Commands.{Command, IsCommand}

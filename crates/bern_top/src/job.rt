@@ -1,24 +1,36 @@
-ghost use Rattle.std.specs.Prelude.{◌≡◌, ◌<◌, ◌≤◌, [], ◌∷◌, ℤ, pos, codes, false, IfOk};
+ghost use Rattle.std.specs.Prelude.{◌≡◌, ◌<◌, ◌≤◌, [], ◌∷◌, codes, length, IfOk};
+ghost use Rattle.std.specs.List.{All};
 ghost use Rattle.bern_base.specs.declared.job.Expr.{out-Expr};
-ghost use Rattle.bern_base.specs.declared.job.Product.{roll-Product};
-ghost use Rattle.rank_node.specs.Jobs.{variable_v, variable_w, nothing, bounds_of};
-ghost use Rattle.bern_top.specs.ProductJob.{matrix_decl, vector_decl, body_factors, IsNestOfProducts, IsJobOfProducts};
+ghost use Rattle.rank_node.specs.Jobs.{variable_v, variable_w, nothing};
+ghost use Rattle.rank_product.specs.Shapes.{IsNestOf, IsTerm, IsWhole};
+ghost use Rattle.bern_top.specs.Product.{fixed_shape};
+ghost use Rattle.bern_top.specs.ProductJob.{matrix_decl, vector_decl, IsJobOfProducts};
 
 use bern_base::{
     Affine, ArrayDecl, Axis, Checked, Expr, ExtentDecl, Factor, FormatDecl, Items, Nest, NoMemory,
     PlaceDecl, PlaceKind, Product, Ref, Shape, Span, Text,
 };
+use rank_product::ProductShape;
 use std::alloc::Global;
-
-const A: u32 = 0;
-
-const X: u32 = 1;
 
 const Y: u32 = 2;
 
 const COO: u32 = 0;
 
 const VEC: u32 = 1;
+
+/// The place and the three arrays of the job, by their numbers.
+pub(crate) fn fixed_shape(size: u32) -> ProductShape
+    ensures { result ≡ fixed_shape size }
+{
+    ProductShape {
+        size,
+        place: 0,
+        target: Y,
+        stored: 0,
+        source: 1,
+    }
+}
 
 /// The job `Y[i] += A[i, j] * X[j]` for a matrix of `size` rows and columns. Its arrays name no files.
 pub(crate) fn product_job(alloc: Global, size: u32) -> Result<Checked, NoMemory>
@@ -31,7 +43,7 @@ pub(crate) fn product_job(alloc: Global, size: u32) -> Result<Checked, NoMemory>
         places: places(alloc)?,
         formats: formats(alloc)?,
         arrays: arrays(alloc, size)?,
-        nests: Items::from_vec(vec![in alloc; product_nest(alloc, size)?]?),
+        nests: Items::from_vec(vec![in alloc; product_nest(alloc, fixed_shape(size))?]?),
         prints: Items::from_vec(vec![in alloc; Y]?),
     })
 }
@@ -109,25 +121,24 @@ fn vector(alloc: Global, name: &[u8], size: u32) -> Result<ArrayDecl, NoMemory>
 }
 
 /// The nest over the whole extent of both variables.
-fn product_nest(alloc: Global, size: u32) -> Result<Nest, NoMemory>
-    requires { size ≤ 4194304 }
-    ensures { IfOk result (λ nest. IsNestOfProducts size nest) }
+fn product_nest(alloc: Global, shape: ProductShape) -> Result<Nest, NoMemory>
+    ensures { IfOk result (λ nest. IsNestOf shape nest) }
 {
-    let i = span(alloc, b"i", size)?;
-    let j = span(alloc, b"j", size)?;
+    let i = span(alloc, b"i", shape.size)?;
+    let j = span(alloc, b"j", shape.size)?;
     let vars = vec![in alloc; i, j]?;
     Ok(Nest {
         line: 0,
         vars: Items::from_vec(vars),
         guards: Items::new(alloc),
-        target: element(Y, variable_i(), zero()),
+        target: element(shape.target, variable_i(), zero()),
         replace: false,
-        body: body(alloc)?,
+        body: body(alloc, shape)?,
     })
 }
 
 fn span(alloc: Global, name: &[u8], size: u32) -> Result<Span, NoMemory>
-    ensures { IfOk result (λ span. bounds_of span ≡ (pos 0, pos size)) }
+    ensures { IfOk result (λ span. IsWhole size span) }
 {
     Ok(Span {
         name: Text::from_bytes(alloc, name)?,
@@ -136,12 +147,13 @@ fn span(alloc: Global, name: &[u8], size: u32) -> Result<Span, NoMemory>
     })
 }
 
-/// `A[i, j] * X[j]`.
-fn body(alloc: Global) -> Result<Expr, NoMemory>
-    ensures { IfOk result (λ body. (out-Expr body).sums ≡ roll-Product (record { minus = false; factors = body_factors }) ∷ []) }
+/// `S[i, j] * D[j]`.
+fn body(alloc: Global, shape: ProductShape) -> Result<Expr, NoMemory>
+    ensures one { IfOk result (λ body. length (out-Expr body).sums ≡ 1) }
+    ensures terms { IfOk result (λ body. All (IsTerm shape) (out-Expr body).sums) }
 {
-    let a = Factor::Read(element(A, variable_i(), variable_j()));
-    let x = Factor::Read(element(X, variable_j(), zero()));
+    let a = Factor::Read(element(shape.stored, variable_i(), variable_j()));
+    let x = Factor::Read(element(shape.source, variable_j(), zero()));
     let factors = vec![in alloc; a, x]?;
     let product = Product {
         minus: false,

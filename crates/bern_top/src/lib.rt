@@ -1,4 +1,4 @@
-//! The commands: words, files in their order, the run, and what is written to the two streams.
+//! The commands: words, the run over their files, and what is written to the two streams.
 #![tactic(auto)]
 
 mod commands;
@@ -6,11 +6,7 @@ mod events;
 mod fixed_job;
 mod job;
 mod lines;
-mod load_error;
-mod loading;
-mod parts;
 mod ranks;
-mod reading;
 mod run;
 mod scan;
 #[cfg(test)]
@@ -18,6 +14,6 @@ mod tests;
 mod top;
 mod writing;
 
-pub use load_error::LoadError;
+pub use file_walk::LoadError;
 pub use run::{replay_call, run_call};
 pub use top::bernoulli;

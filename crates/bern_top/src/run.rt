@@ -1,20 +1,21 @@
-ghost use Rattle.std.specs.Prelude.{◌≡◌, ◌≤◌, ◌++◌, codes, false, true, length, if◌then◌else◌, [], IfOk, IfSome};
+ghost use Rattle.std.specs.Prelude.{◌≡◌, ◌≤◌, ◌∷◌, ◌++◌, codes, false, true, length, if◌then◌else◌, [], IfOk, IfSome};
+ghost use Rattle.std.specs.List.{AllZip};
 ghost use Rattle.bern_base.specs.Matrix.{IsMatrix};
 ghost use Rattle.dense_model.specs.ArrayText.{array_text};
-ghost use Rattle.bern_top.specs.Answers.{Agrees, BlamesOne, HasFaultCause, IsAnswer, LoadsArray};
+ghost use Rattle.file_walk.specs.Answers.{BlamesOne, HasFaultCause};
+ghost use Rattle.file_walk.specs.Walk.{ComesTo, IsArray};
+ghost use Rattle.bern_top.specs.Answers.{Agrees, IsAnswer};
 ghost use Rattle.bern_top.specs.Asked.{command_with};
 ghost use Rattle.bern_top.specs.FixedJob.{job_of};
 ghost use Rattle.bern_top.specs.Product.{events_text};
-ghost use Rattle.bern_top.specs.Walk.{Runs, Comes, ComesMatrix, HasMatrix, matrix_ending, vector_ending, product_text};
+ghost use Rattle.bern_top.specs.Walk.{Runs, Comes, entries_at, files_ending, product_text, uses_of};
 
 use crate::events::write_events;
 use crate::fixed_job::{FixedJob, fixed_job};
-use crate::load_error::{LoadError, refusal};
-use crate::loading::{load_array, use_matrix};
-use crate::ranks::product_on_ranks;
-use crate::reading::read_file;
+use crate::ranks::fixed_product;
 use bern_base::{Items, Matrix, NoMemory, Rule, Steps, Text, Val};
 use bern_ports::Shelf;
+use file_walk::{LoadError, Use, load_arrays, read_file, refusal};
 use mm_text::write_array;
 use std::alloc::Global;
 use std::sync::ledger::Ledger;
@@ -111,7 +112,7 @@ fn run_job<F: Shelf>(
     }
 }
 
-/// The run from the matrix's file on.
+/// The run from its matrix files on.
 fn run_form<F: Shelf>(
     alloc: Global,
     job: FixedJob<'_>,
@@ -126,38 +127,13 @@ fn run_form<F: Shelf>(
     ensures sure { F.sure shelf.new ≡ F.sure shelf.old }
     ensures cause { HasFaultCause (F.faults shelf.old) (F.faults shelf.new) result }
     ensures blame { IfSome (F.files shelf.old) (BlamesOne (F.sure shelf.old) (F.faults_on shelf.old) (F.faults_on shelf.new) result) }
-    ensures told { IfSome (F.files shelf.old) (λ fs. IsAnswer (matrix_ending fs options.ranks options.events (job_of job.entry)) (ComesMatrix fs (job_of job.entry)) result) }
+    ensures told { IfSome (F.files shelf.old) (λ fs. IsAnswer (files_ending fs options.ranks options.events (job_of job.entry)) (ComesTo fs (uses_of (job_of job.entry))) result) }
 {
-    match load_array(alloc, job.matrix, job.size, job.size, shelf) {
-        Ok(matrix) => run_matrix(alloc, job, options, matrix, shelf),
-        Err(fault) => Err(fault),
-    }
-}
-
-/// The run from the vector's file on.
-fn run_matrix<F: Shelf>(
-    alloc: Global,
-    job: FixedJob<'_>,
-    options: RunOptions,
-    matrix: Matrix,
-    shelf: &mut F,
-) -> Result<Text, LoadError>
-    requires some { 1 ≤ options.ranks }
-    requires most { options.ranks ≤ 64 }
-    requires size { 1 ≤ job.size }
-    requires limit { job.size ≤ 4194304 }
-    requires matrix { IsMatrix matrix }
-    requires rows { matrix.rows ≡ job.size }
-    requires cols { matrix.cols ≡ job.size }
-    requires there { IfSome (F.files shelf.old) (λ fs. HasMatrix fs job.matrix.now job.size job.size matrix) }
-    ensures files { F.files shelf.new ≡ F.files shelf.old }
-    ensures sure { F.sure shelf.new ≡ F.sure shelf.old }
-    ensures cause { HasFaultCause (F.faults shelf.old) (F.faults shelf.new) result }
-    ensures blame { IfSome (F.files shelf.old) (BlamesOne (F.sure shelf.old) (F.faults_on shelf.old) (F.faults_on shelf.new) result) }
-    ensures told { IfSome (F.files shelf.old) (λ fs. IsAnswer (vector_ending fs options.ranks options.events (job_of job.entry) matrix) (λ name. name ≡ job.entry.vector.now) result) }
-{
-    match load_vector(alloc, job, &matrix, shelf) {
-        Ok(vector) => match finished(alloc, job.size, options, matrix, vector) {
+    let Ok(uses) = uses_of(alloc, job) else {
+        return Err(LoadError::NoMemory);
+    };
+    match load_arrays(alloc, &uses, shelf) {
+        Ok(matrices) => match product(alloc, job, options, matrices) {
             Ok(text) => Ok(text),
             Err(_) => Err(LoadError::NoMemory),
         },
@@ -165,42 +141,56 @@ fn run_matrix<F: Shelf>(
     }
 }
 
-/// The matrix of the vector's file. A file that is named twice is read once, so its matrix serves both arrays.
-fn load_vector<F: Shelf>(
-    alloc: Global,
-    job: FixedJob<'_>,
-    matrix: &Matrix,
-    shelf: &mut F,
-) -> Result<Matrix, LoadError>
-    requires matrix { IsMatrix matrix.now }
-    requires there { IfSome (F.files shelf.old) (λ fs. HasMatrix fs job.matrix.now job.size job.size matrix.now) }
-    ensures files { F.files shelf.new ≡ F.files shelf.old }
-    ensures sure { F.sure shelf.new ≡ F.sure shelf.old }
-    ensures cause { HasFaultCause (F.faults shelf.old) (F.faults shelf.new) result }
-    ensures blame { IfSome (F.files shelf.old) (BlamesOne (F.sure shelf.old) (F.faults_on shelf.old) (F.faults_on shelf.new) result) }
-    ensures matrix { IfOk result (λ m. IsMatrix m) }
-    ensures rows { IfOk result (λ m. m.rows ≡ job.entry.size) }
-    ensures cols { IfOk result (λ m. m.cols ≡ 1) }
-    ensures told { IfSome (F.files shelf.old) (λ fs. LoadsArray fs job.entry.vector.now job.entry.size 1 result) }
+/// The uses of files: the matrix has as many rows as columns, and the vector one column.
+fn uses_of(alloc: Global, job: FixedJob<'_>) -> Result<Items<Use>, NoMemory>
+    ensures { IfOk result (λ uses. uses ≡ uses_of (job_of job.entry)) }
 {
-    if job.vector != job.matrix {
-        return load_array(alloc, job.vector, job.size, 1, shelf);
-    }
-    match copied(alloc, matrix) {
-        Ok(copy) => use_matrix(alloc, job.vector, job.size, 1, copy),
-        Err(_) => Err(LoadError::NoMemory),
-    }
+    let matrix = Text::from_bytes(alloc, job.matrix)?;
+    let vector = Text::from_bytes(alloc, job.vector)?;
+    let mut uses = Items::new(alloc);
+    uses.push(Use {
+        file: matrix,
+        rows: job.size,
+        cols: job.size,
+    })?;
+    uses.push(Use {
+        file: vector,
+        rows: job.size,
+        cols: 1,
+    })?;
+    Ok(uses)
 }
 
-fn copied(alloc: Global, matrix: &Matrix) -> Result<Matrix, NoMemory>
-    ensures { IfOk result (λ m. m ≡ matrix.now) }
+/// What is printed of the product of the matrices of both uses.
+fn product(
+    alloc: Global,
+    job: FixedJob<'_>,
+    options: RunOptions,
+    matrices: Items<Matrix>,
+) -> Result<Text, NoMemory>
+    requires some { 1 ≤ options.ranks }
+    requires most { options.ranks ≤ 64 }
+    requires size { 1 ≤ job.size }
+    requires limit { job.size ≤ 4194304 }
+    requires arrays { AllZip IsArray (uses_of (job_of job)) matrices }
+    ensures { IfOk result (λ text. text ≡ product_text options.ranks options.events job.entry.size (entries_at matrices 0) (entries_at matrices 1)) }
 {
-    let entries = Items::from_slice(alloc, matrix.entries.as_slice())?;
-    Ok(Matrix {
-        rows: matrix.rows,
-        cols: matrix.cols,
-        entries,
-    })
+    let (matrix, vector) = both(matrices);
+    finished(alloc, job.size, options, matrix, vector)
+}
+
+fn both(matrices: Items<Matrix>) -> (Matrix, Matrix)
+    requires { length matrices ≡ 2 }
+    ensures { matrices ≡ result.0 ∷ result.1 ∷ [] }
+{
+    let mut matrices = matrices;
+    let Some(second) = matrices.pop() else {
+        unreachable!()
+    };
+    let Some(first) = matrices.pop() else {
+        unreachable!()
+    };
+    (first, second)
 }
 
 /// The printed product, and the number of events where it is asked for.
@@ -223,7 +213,7 @@ fn finished(
     requires column { vector.cols ≡ 1 }
     ensures { IfOk result (λ text. text ≡ product_text options.ranks options.events size matrix.entries vector.entries) }
 {
-    let (values, events) = match product_on_ranks(
+    let (values, events) = match fixed_product(
         alloc,
         size,
         options.ranks,

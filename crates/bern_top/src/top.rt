@@ -1,5 +1,6 @@
 ghost use Rattle.std.specs.Prelude.{◌≡◌, ◌≤◌, map, string_bytes, IfSome};
-ghost use Rattle.bern_top.specs.Answers.{Agrees, BlamesOne, HasFaultCause, HasLine};
+ghost use Rattle.file_walk.specs.Answers.{BlamesOne, HasFaultCause};
+ghost use Rattle.bern_top.specs.Answers.{Agrees, HasLine};
 ghost use Rattle.bern_top.specs.Lines.{refusal_line};
 ghost use Rattle.bern_top.specs.Asked.{asked};
 ghost use Rattle.bern_top.specs.Commands.{IsCommand};
@@ -8,11 +9,11 @@ ghost use Rattle.bern_top.specs.Walk.{Runs, Comes};
 
 use crate::commands::{Request, request_of};
 use crate::lines::{write_read_fault, write_refusal};
-use crate::load_error::LoadError;
 use crate::run::{replay_call, run_call};
 use crate::writing::write_whole;
 use bern_base::{Refusal, Rule, Steps, Text};
 use bern_ports::{Shelf, Sink};
+use file_walk::LoadError;
 use std::alloc::Global;
 use std::sync::ledger::Ledger;
 

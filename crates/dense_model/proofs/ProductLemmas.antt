@@ -25,7 +25,7 @@ part_at k p = if p.0 == k then p.1 else 0
 abbrev pub dense_part : ℕ → List ℕ → List ℕ → ℕ × ℕ → ℕ × ℕ
 dense_part n a x p = (p.0, ring_mul (slice_index a (p.0 * n + p.1)) (slice_index x p.1))
 
-length-fold_add_part : (values : List ℕ) (parts : List (ℕ × ℕ)) → length (fold add_part values parts) ≡ length values
+pub length-fold_add_part : (values : List ℕ) (parts : List (ℕ × ℕ)) → length (fold add_part values parts) ≡ length values
 length-fold_add_part values [] = refl
 length-fold_add_part values (p ∷ ps) = length-fold_add_part (add_part values p) ps ∙ length-set values p.0 (ring_add (slice_index values p.0) p.1)
 
@@ -49,7 +49,7 @@ get_or-add_part values p k within low =
     (λ apart. rw (ne_eqb p.0 k apart, add-zero (slice_index values k)) (kept apart ∙ sym (mod-eq_of_lt low)))
     (cases_eq p.0 k)
 
-get_or-fold_add_part : (values : List ℕ) (parts : List (ℕ × ℕ)) (k : ℕ) → k < length values → slice_index values k < 2 ^ 64 →
+pub get_or-fold_add_part : (values : List ℕ) (parts : List (ℕ × ℕ)) (k : ℕ) → k < length values → slice_index values k < 2 ^ 64 →
     slice_index (fold add_part values parts) k ≡ (slice_index values k + sum_by (part_at k) parts) % 2 ^ 64
 get_or-fold_add_part values [] k within low = sym (ap (λ t. t % 2 ^ 64) (add-zero (slice_index values k)) ∙ mod-eq_of_lt low)
 get_or-fold_add_part values (p ∷ ps) k within low =

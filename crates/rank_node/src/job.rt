@@ -4,7 +4,7 @@ ghost use Rattle.rank_node.specs.Jobs.{array_read, block_of, is_whole_shape, is_
 use bern_base::{Checked, Factor, Items, PlaceKind, Shape};
 
 /// The array that a factor reads, if it reads one.
-pub(crate) fn array_read(factors: &Items<Factor>, at: usize) -> Option<u32>
+pub fn array_read(factors: &Items<Factor>, at: usize) -> Option<u32>
     ensures { result ≡ array_read factors.now at }
 {
     match factors.get(at) {

@@ -12,6 +12,7 @@ mod settle;
 mod stage;
 mod sums;
 
+pub use job::array_read;
 pub use node::Node;
 pub use sets::{asked_sets, values_at};
 pub use stage::Want;

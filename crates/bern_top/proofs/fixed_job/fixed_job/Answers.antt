@@ -2,7 +2,8 @@ use Rattle.std.proofs.Common.{ap, decimal, refl}
 use Rattle.std.proofs.lemmas.Option.{none-some}
 use Rattle.bern_top.specs.FixedJob.{AreFields, IsFixedJob, job_of}
 use Rattle.bern_top.proofs.ScanLemmas.{same_inside, lacks_decimal}
-use Rattle.bern_top.proofs.JobLemmas.{name_lacks, if_some_weaker, job_of_parts, parts_of_job, size_fits}
+use Rattle.file_walk.proofs.ShelfLemmas.{if_some_weaker}
+use Rattle.bern_top.proofs.JobLemmas.{name_lacks, job_of_parts, parts_of_job, size_fits}
 use Rattle.bern_top.proofs.fixed_job.fixed_job.Goals as goal
 
 pub returns-in-Some-clause-found : goal.returns-in-Some-clause-found

@@ -1,0 +1,5 @@
+pub mod ShelfLemmas
+pub mod ReadingLemmas
+pub mod LoadingLemmas
+pub mod WalkLemmas
+pub mod MentionLemmas

@@ -1,0 +1,4 @@
+pub mod Answers
+pub mod Walk
+pub mod Mentions
+pub mod Serving

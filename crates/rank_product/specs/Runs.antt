@@ -1,0 +1,84 @@
+-- A product as a run on ranks, and what its dense loops leave.
+use Rattle.std.specs.Prelude.{◌≡◌, ℕ, ◌+◌, ◌*◌, ◌/◌, ◌%◌, Bool, List, [], Option, Some, None, map, slice_get}
+use Rattle.std.specs.Int.{div_ceil}
+use Rattle.std.specs.List.{All, fold, range_with_len}
+use Rattle.bern_base.specs.Matrix.{IsMatrix}
+use Rattle.bern_base.specs.Ring.{ring_add, ring_mul}
+use Rattle.bern_base.specs.declared.axes.Axis.TheVariants.{Row}
+use Rattle.bern_base.specs.declared.job.ArrayDecl.{ArrayDecl}
+use Rattle.bern_base.specs.declared.job.Checked.{Checked}
+use Rattle.bern_base.specs.declared.matrix.Entry.{Entry}
+use Rattle.bern_base.specs.declared.matrix.Matrix.{Matrix}
+use Rattle.dense_model.specs.Dense.{points}
+use Rattle.dense_model.specs.State.{State, read, write, matrix_values}
+use Rattle.placement.specs.Cyclic.{cyclic_triples}
+use Rattle.placement.specs.Part.{part_of}
+use Rattle.placement.specs.Placement.{Triple, owned_of, global_of}
+use Rattle.placement.specs.declared.part.Part.{Part}
+use Rattle.rank_model.specs.Runs.{Run}
+use Rattle.rank_product.specs.declared.shape.ProductShape.{ProductShape}
+
+-- one turn of the loops T[v] += S[v,w] * D[w], read in the state reached so far
+abbrev pub at_point : ProductShape → State → ℕ × ℕ → State
+at_point p state point = write state p.target point.0
+    (ring_add (read state p.target point.0) (ring_mul (read state p.stored (point.0 * p.size + point.1)) (read state p.source point.1)))
+
+-- the state after the loops, in program order
+abbrev pub dense : ProductShape → State → State
+dense p first = fold (at_point p) first (points p.size)
+
+-- the values that the arrays begin with
+abbrev pub values_of : Matrix → List ℕ
+values_of m = matrix_values m.rows m.cols m.entries
+
+abbrev pub first_state : List Matrix → State
+first_state matrices = map values_of matrices
+
+-- the matrices of the arrays of a job, each of the rows and columns of its array
+abbrev pub sizes_of : Matrix → ℕ × ℕ
+sizes_of m = (m.rows, m.cols)
+
+abbrev pub declared_sizes : ArrayDecl → ℕ × ℕ
+declared_sizes array = (array.rows, array.cols)
+
+pub record AreOfJob (job : Checked) (matrices : List Matrix) : Type 0 where
+  pub sizes : map sizes_of matrices ≡ map declared_sizes job.arrays
+  pub matrices_are : All IsMatrix matrices
+
+-- the entries and the columns of one of them; a matrix that is not there has none
+abbrev pub entries_of : Option Matrix → List Entry
+entries_of None = []
+entries_of (Some m) = m.entries
+
+abbrev pub cols_of : Option Matrix → ℕ
+cols_of None = 0
+cols_of (Some m) = m.cols
+
+-- one block of the extent for each rank
+abbrev pub block_place : ℕ → ℕ → List Triple
+block_place size ranks = cyclic_triples size ranks (div_ceil size ranks)
+
+-- the elements of an array of so many columns that lie in the rows of a rank, by the rank's own numbers
+abbrev pub owned_element : ℕ → List Triple → ℕ → ℕ → ℕ
+owned_element cols place rank l = global_of place rank (l / cols) * cols + l % cols
+
+abbrev pub owned_elements : ℕ → List Triple → ℕ → List ℕ
+owned_elements cols place rank = map (owned_element cols place rank) (range_with_len 0 (owned_of place rank * cols))
+
+-- the product of these matrices on so many ranks; `whole` tells which arrays are stored whole
+abbrev pub run_of : (ℕ → Bool) → ProductShape → ℕ → List Matrix → Run
+run_of whole p ranks matrices = record {
+  ranks = ranks;
+  place = block_place p.size ranks;
+  target = p.target;
+  stored = p.stored;
+  source = p.source;
+  entries = entries_of (slice_get matrices p.stored);
+  dense = whole;
+  held = λ array rank. owned_elements (cols_of (slice_get matrices array)) (block_place p.size ranks) rank;
+  first = first_state matrices;
+}
+
+-- the parts of all arrays that a rank has, by their rows
+abbrev pub parts_at : List Triple → ℕ → List Matrix → List Part
+parts_at place rank matrices = map (part_of Row place rank) matrices
