@@ -6,6 +6,8 @@ pub mod PlacesLemmas
 pub mod EntriesLemmas
 pub mod SumsLemmas
 pub mod FeedingLemmas
+pub mod FrontsLemmas
+pub mod TakingLemmas
 pub mod PrintedNumbers
 pub mod PrintedLines
 pub mod Grids

@@ -24,7 +24,7 @@ plain_none p fails (b ∷ w) plain =
     let parts = and_parts (is_plain b) (list_all is_plain w) plain in
     rw (fails b parts.0) (plain_none p fails w parts.1)
 
-abbrev is_return : ℕ → Bool
+abbrev pub is_return : ℕ → Bool
 is_return b = b == 13
 
 pub plain_feed : (w : List ℕ) → list_all is_plain w ≡ true → list_any is_line_feed w ≡ false

@@ -1,6 +1,8 @@
 pub mod Naturals
+pub mod Fronts
 pub mod Counts
 pub mod Cursor
+pub mod PlainLines
 pub mod Merging
 pub mod Tables
 pub mod Stages

@@ -7,7 +7,7 @@ ghost use Rattle.mm_profile.specs.Entries.{mirrored, is_skew, counted_of, valued
 ghost use Rattle.mm_text.specs.Naturals.{StandsFor, IsNumber};
 ghost use Rattle.mm_text.specs.Counts.{counted_list, listed, are_inside};
 
-use crate::number_words::{next_natural, plain_natural};
+use crate::number_words::next_natural;
 use crate::numerals::{Natural, Number, read_integer};
 use crate::size_line::two_numbers;
 use crate::word_list::one_word;
@@ -60,7 +60,7 @@ fn is_skew(symmetry: Symmetry) -> bool
 }
 
 /// What an entry counts for, once its place and its value are known.
-fn valued(head: &Head, row: u32, col: u32, number: Number) -> Result<Counted, Rule>
+pub(crate) fn valued(head: &Head, row: u32, col: u32, number: Number) -> Result<Counted, Rule>
     requires row { row < head.now.rows }
     requires col { col < head.now.cols }
     requires square { IsTrue (is_square head.now.kind.symmetry head.now.rows head.now.cols) }
@@ -90,7 +90,12 @@ fn index_of(size: u32, index: Natural) -> Option<u32>
     }
 }
 
-fn placed(head: &Head, row: Natural, col: Natural, number: Number) -> Result<Counted, Rule>
+pub(crate) fn placed(
+    head: &Head,
+    row: Natural,
+    col: Natural,
+    number: Number,
+) -> Result<Counted, Rule>
     requires square { IsTrue (is_square head.now.kind.symmetry head.now.rows head.now.cols) }
     ensures entry { (i j : ℕ) (n : Whole) → StandsFor row i → StandsFor col j → IsNumber number n →
         listed result ≡ placed head.now i j n }
@@ -105,8 +110,8 @@ fn placed(head: &Head, row: Natural, col: Natural, number: Number) -> Result<Cou
     valued(head, row, col, number)
 }
 
-/// The row, the column and the value of a line that names all three, with any blanks.
-fn spaced_place_and_value(line: &[u8]) -> Option<(Natural, Natural, Number)>
+/// The row, the column and the value of a line that names all three.
+fn place_and_value(line: &[u8]) -> Option<(Natural, Natural, Number)>
     ensures { MatchOption result
         (is_stated_line Field.Integer (words line.now) ≡ false)
         (λ n. (is_stated_line Field.Integer (words line.now) ≡ true)
@@ -118,34 +123,6 @@ fn spaced_place_and_value(line: &[u8]) -> Option<(Natural, Natural, Number)>
     let (col, after_col) = next_natural(after_row)?;
     let value = read_integer(one_word(after_col)?)?;
     Some((row, col, value))
-}
-
-/// The same of a line that has one blank after each index and no other. None says nothing of the line.
-fn plain_place_and_value(line: &[u8]) -> Option<(Natural, Natural, Number)>
-    ensures { IfSome result (λ n. (is_stated_line Field.Integer (words line.now) ≡ true)
-        × StandsFor n.0 (number_at (words line.now) 0)
-        × StandsFor n.1 (number_at (words line.now) 1)
-        × IsNumber n.2 (integer (word_at (words line.now) 2))) }
-{
-    let (row, after_row) = plain_natural(line)?;
-    let (col, after_col) = plain_natural(after_row)?;
-    let value = read_integer(after_col)?;
-    Some((row, col, value))
-}
-
-/// The row, the column and the value of a line that names all three. Nearly all lines are plain, and those are looked at once.
-fn place_and_value(line: &[u8]) -> Option<(Natural, Natural, Number)>
-    ensures { MatchOption result
-        (is_stated_line Field.Integer (words line.now) ≡ false)
-        (λ n. (is_stated_line Field.Integer (words line.now) ≡ true)
-        × StandsFor n.0 (number_at (words line.now) 0)
-        × StandsFor n.1 (number_at (words line.now) 1)
-        × IsNumber n.2 (integer (word_at (words line.now) 2))) }
-{
-    match plain_place_and_value(line) {
-        Some(plain) => Some(plain),
-        None => spaced_place_and_value(line),
-    }
 }
 
 /// What a line counts for that names its place.

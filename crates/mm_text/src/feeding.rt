@@ -39,6 +39,23 @@ fn split_line(piece: &[u8]) -> Option<(&[u8], &[u8])>
     }
 }
 
+/// Takes the plain lines at the start of a piece, of which the first has this number. Gives the number of the line after them, and what is left of the piece.
+fn take_plain_lines<'a>(table: &mut Table, number: u64, piece: &'a [u8]) -> (u64, &'a [u8])
+    requires fits { number + length piece.now < 2 ^ 64 }
+    ensures lines { (more : List ℕ) →
+        lines_rest table.old number (lines (piece.now ++ more)) ≡ lines_rest table.new result.0 (lines (result.1.now ++ more)) }
+    ensures number { result.0 + length result.1.now ≤ number + length piece.now }
+    ensures shorter { length result.1.now ≤ length piece.now }
+{
+    let mut next = number;
+    let mut rest = piece;
+    while let Some(after) = table.take_plain(rest) {
+        next += 1;
+        rest = after;
+    }
+    (next, rest)
+}
+
 /// Takes all lines that end in a piece, of which the first has this number. Gives the number of the line that is left, and its beginning.
 fn take_lines<'a>(
     table: &mut Table,
@@ -52,16 +69,16 @@ fn take_lines<'a>(
     ensures number { IfOk result (λ left. left.0 + length left.1.now ≤ number + length piece.now) }
     ensures shorter { IfOk result (λ left. length left.1.now ≤ length piece.now) }
 {
-    let mut next = number;
-    let mut rest = piece;
+    let (mut next, mut rest) = take_plain_lines(table, number, piece);
     while let Some((line, after)) = split_line(rest) {
         match table.take_any(without_return(line)) {
             Ok(()) => {}
             Err(LineError::Broken(rule)) => return Err(MmError::Broken { line: next, rule }),
             Err(LineError::NoMemory) => return Err(MmError::NoMemory),
         }
-        next += 1;
-        rest = after;
+        let (later, left) = take_plain_lines(table, next + 1, after);
+        next = later;
+        rest = left;
     }
     Ok((next, rest))
 }

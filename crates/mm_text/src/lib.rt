@@ -11,9 +11,11 @@ mod entry_line;
 mod error;
 mod feed;
 mod feeding;
+mod fronts;
 mod number_words;
 mod numerals;
 mod pieces;
+mod plain_lines;
 mod printed;
 #[cfg(test)]
 mod reader_tests;

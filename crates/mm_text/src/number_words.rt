@@ -1,4 +1,4 @@
-ghost use Rattle.std.specs.Prelude.{◌≡◌, ◌<◌, ◌≤◌, length, slice_index, true, false, IsTrue, IfSome, MatchOption};
+ghost use Rattle.std.specs.Prelude.{◌≡◌, ◌<◌, ◌≤◌, length, slice_index, true, false, IsTrue, MatchOption};
 ghost use Rattle.mm_profile.specs.Lines.{is_blank, words, word_at};
 ghost use Rattle.mm_profile.specs.Numbers.{is_natural};
 ghost use Rattle.mm_text.specs.Naturals.{IsNextNatural};
@@ -48,26 +48,4 @@ pub(crate) fn next_natural(line: &[u8]) -> Option<(Natural, &[u8])>
     }
     let (_, rest) = from.split_at(len);
     Some((Natural::Small(number), rest))
-}
-
-/// Whether a blank stands after so many bytes.
-fn blank_follows(line: &[u8], len: usize) -> bool
-    ensures inside { IsTrue result → len < length line.now }
-    ensures blank { IsTrue result → is_blank (slice_index line.now len) ≡ true }
-{
-    len < line.len() && is_blank(line[len])
-}
-
-/// As `next_natural`, where the line begins with the digits and a blank ends them. It gives what stands after that blank, and none says nothing of the line.
-pub(crate) fn plain_natural(line: &[u8]) -> Option<(Natural, &[u8])>
-    ensures { IfSome result (λ n. IsNextNatural line.now n.0 n.1.now) }
-{
-    let (number, len) = digits_front(line)?;
-    if len == 0 {
-        return None;
-    }
-    if !blank_follows(line, len) {
-        return None;
-    }
-    Some((Natural::Small(number), &line[len + 1..]))
 }

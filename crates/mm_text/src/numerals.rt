@@ -23,7 +23,7 @@ pub(crate) enum Number {
 
 impl Natural {
     /// The number whose digits are those of this one and a further one.
-    fn with_digit(self, digit: u8) -> Natural
+    pub(crate) fn with_digit(self, digit: u8) -> Natural
         requires { digit < 10 }
         ensures { (m : ℕ) → StandsFor self m → StandsFor result (10 * m + digit) }
     {
@@ -43,10 +43,62 @@ impl Natural {
 /// So many digits always spell a number below 2^64.
 const SURE_DIGITS: usize = 19;
 
-fn is_digit(byte: u8) -> bool
+/// Indices mostly have fewer digits.
+const SHORT: usize = 8;
+
+pub(crate) fn is_digit(byte: u8) -> bool
     ensures { result ≡ is_digit byte }
 {
     byte >= b'0' && byte <= b'9'
+}
+
+/// The number that the digits at the front of a few bytes spell, and how many they are.
+#[inline(always)]
+fn few_digits(front: &[u8]) -> (u64, usize)
+    requires { length front.now ≤ 19 }
+    ensures within { result.1 ≤ length front.now }
+    ensures digits { list_all is_digit (take result.1 front.now) ≡ true }
+    ensures number { result.0 ≡ natural (take result.1 front.now) }
+    ensures all { result.1 < length front.now → is_digit (slice_index front.now result.1) ≡ false }
+{
+    let mut number: u64 = 0;
+    for (at, byte) in front.iter().enumerate() {
+        if !is_digit(*byte) {
+            return (number, at);
+        }
+        number = number * 10 + (*byte - b'0') as u64;
+    }
+    (number, front.len())
+}
+
+/// As `leading_digits`, for any number of digits.
+#[inline(never)]
+fn sure_digits(bytes: &[u8]) -> (u64, usize)
+    ensures within { result.1 ≤ length bytes.now }
+    ensures digits { list_all is_digit (take result.1 bytes.now) ≡ true }
+    ensures number { result.0 ≡ natural (take result.1 bytes.now) }
+    ensures all { result.1 < 19 → result.1 < length bytes.now → is_digit (slice_index bytes.now result.1) ≡ false }
+{
+    few_digits(&bytes[..bytes.len().min(SURE_DIGITS)])
+}
+
+/// The number that the digits at the front spell, at most 19 of them, and how many they are.
+#[inline(always)]
+pub(crate) fn leading_digits(bytes: &[u8]) -> (u64, usize)
+    ensures within { result.1 ≤ length bytes.now }
+    ensures digits { list_all is_digit (take result.1 bytes.now) ≡ true }
+    ensures number { result.0 ≡ natural (take result.1 bytes.now) }
+    ensures all { result.1 < 19 → result.1 < length bytes.now → is_digit (slice_index bytes.now result.1) ≡ false }
+{
+    if bytes.len() < SHORT {
+        return sure_digits(bytes);
+    }
+    // Most numbers are short. The compiler writes this loop out, since its length is known.
+    let (number, len) = few_digits(&bytes[..SHORT]);
+    if len < SHORT {
+        return (number, len);
+    }
+    sure_digits(bytes)
 }
 
 /// The number that the digits at the front spell, and how many they are; none where it might not fit.
@@ -56,18 +108,11 @@ pub(crate) fn digits_front(bytes: &[u8]) -> Option<(u64, usize)>
     ensures number { IfSome result (λ n. n.0 ≡ natural (take n.1 bytes.now)) }
     ensures all { IfSome result (λ n. n.1 < length bytes.now → is_digit (slice_index bytes.now n.1) ≡ false) }
 {
-    let front = &bytes[..bytes.len().min(SURE_DIGITS)];
-    let mut number: u64 = 0;
-    for (at, byte) in front.iter().enumerate() {
-        if !is_digit(*byte) {
-            return Some((number, at));
-        }
-        number = number * 10 + (*byte - b'0') as u64;
-    }
-    if front.len() < bytes.len() {
+    let (number, len) = leading_digits(bytes);
+    if len >= SURE_DIGITS && len < bytes.len() {
         return None;
     }
-    Some((number, bytes.len()))
+    Some((number, len))
 }
 
 /// The number that a word of any length spells by digits.
@@ -104,19 +149,19 @@ pub(crate) fn read_natural(word: &[u8]) -> Option<Natural>
     Some(Natural::Small(number))
 }
 
-fn is_minus(word: &[u8]) -> bool
+pub(crate) fn is_minus(word: &[u8]) -> bool
     ensures { result ≡ is_minus word.now }
 {
     !word.is_empty() && word[0] == b'-'
 }
 
-fn is_plus(word: &[u8]) -> bool
+pub(crate) fn is_plus(word: &[u8]) -> bool
     ensures { result ≡ is_plus word.now }
 {
     !word.is_empty() && word[0] == b'+'
 }
 
-fn unsigned(word: &[u8]) -> &[u8]
+pub(crate) fn unsigned(word: &[u8]) -> &[u8]
     ensures { result.now ≡ unsigned word.now }
 {
     if is_minus(word) || is_plus(word) {
@@ -127,7 +172,7 @@ fn unsigned(word: &[u8]) -> &[u8]
 }
 
 /// The value of a number with this sign.
-fn number_of(minus: bool, size: Natural) -> Number
+pub(crate) fn number_of(minus: bool, size: Natural) -> Number
     ensures { (m : ℕ) → StandsFor size m → IsNumber result (record { minus = minus; size = m }) }
 {
     match size {

@@ -195,9 +195,13 @@ const MINUS_ONE: u64 = u64::MAX;
 const SPELLINGS: &[u8] =
     b"%%MATRIXMARKET Matrix COORDINATE Integer GENERAL\r\n\t\r\n% 9 9\n\n  3\t4  007 \r\n1 1 +5\n  % 1 1\n\t1 2\t-0000000000000000000000000000000000000001\r\n%\n2 0003 18446744073709551615\n\n2 3 2\n3 4 -9223372036854775808\n3 1 00000000000000000004\n3 1 -4";
 
+/// Plain lines, the columns of a row in any order, with others among them.
+const ROW_BY_ROW: &[u8] =
+    b"%%MatrixMarket matrix coordinate integer general\n3 4 8\n1 4 2\r\n1\t3 18446744073709551615\n1 2 -9223372036854775808\n%\n2  1 +5\n2 1 0\r\n3 4 +3\n3 1 10000000000000000000\n3 4 0000000000000000005";
+
 #[test]
 fn every_entry_counts_for_its_element(rt: HostRuntime) -> Result<(), Fail> {
-    let table: [(&[u8], u32, u32, &[Entry]); 9] = [
+    let table: [(&[u8], u32, u32, &[Entry]); 10] = [
         (
             SPELLINGS,
             3,
@@ -208,6 +212,19 @@ fn every_entry_counts_for_its_element(rt: HostRuntime) -> Result<(), Fail> {
                 entry(1, 2, 1),
                 entry(2, 0, 0),
                 entry(2, 3, 1 << 63),
+            ],
+        ),
+        (
+            ROW_BY_ROW,
+            3,
+            4,
+            &[
+                entry(0, 1, 1 << 63),
+                entry(0, 2, MINUS_ONE),
+                entry(0, 3, 2),
+                entry(1, 0, 5),
+                entry(2, 0, 10_000_000_000_000_000_000),
+                entry(2, 3, 8),
             ],
         ),
         (

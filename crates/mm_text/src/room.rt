@@ -1,11 +1,11 @@
-ghost use Rattle.std.specs.Prelude.{◌≡◌, ◌≤◌, ◌++◌, OnOk, OnErr};
+ghost use Rattle.std.specs.Prelude.{◌≡◌, ◌+◌, ◌≤◌, ◌++◌, OnOk, OnErr, vec_len, vec_capacity};
 ghost use Rattle.mm_text.specs.Counts.{counted_list};
 
 use crate::entry_line::Counted;
 use bern_base::{Entry, NoMemory};
 use mm_profile::{Field, Format, Head, Symmetry};
 
-/// How many entries are made room for at a time, until a quarter of those that are there is more.
+/// How many entries are made room for at least.
 const BLOCK: usize = 4096;
 
 /// The bytes of the shortest entry line.
@@ -29,43 +29,60 @@ fn copies(symmetry: Symmetry) -> usize
     }
 }
 
-/// How many entries so many bytes can hold, and no more than the file states.
+/// How many entries so many bytes can hold, and no more than the file states; and one more, since a line asks for room for two.
 pub(crate) fn room_for(head: &Head, to_come: usize) -> usize {
     let stated = head.stated as usize;
     let lines = (to_come / least_line(head) + 1).min(stated);
     let most = lines * copies(head.kind.symmetry);
     match head.kind.format {
-        Format::Coordinate => most,
-        Format::Array => most.min(stated),
+        Format::Coordinate => most + 1,
+        Format::Array => most.min(stated) + 1,
+    }
+}
+
+/// Makes room for as many entries as there are, but no more than the file states.
+#[inline(never)]
+fn grow(head: &Head, entries: &mut Vec<Entry>) -> Result<(), NoMemory>
+    ensures same { entries.new.items ≡ entries.old.items }
+    ensures room { OnOk result (vec_len entries.new + 2 ≤ vec_capacity entries.new) }
+{
+    let len = entries.len();
+    let most = room_for(head, usize::MAX).saturating_sub(len);
+    match entries.reserve_exact(len.max(BLOCK).min(most).max(2)) {
+        Ok(()) => Ok(()),
+        Err(_) => Err(NoMemory),
     }
 }
 
 /// Makes room for what one more line counts for.
-fn make_room(entries: &mut Vec<Entry>) -> Result<(), NoMemory>
-    ensures { entries.new.items ≡ entries.old.items }
+#[inline(always)]
+fn make_room(head: &Head, entries: &mut Vec<Entry>) -> Result<(), NoMemory>
+    ensures same { entries.new.items ≡ entries.old.items }
+    ensures room { OnOk result (vec_len entries.new + 2 ≤ vec_capacity entries.new) }
 {
-    let len = entries.len();
-    if entries.capacity() - len >= 2 {
+    if entries.capacity() - entries.len() >= 2 {
         return Ok(());
     }
-    match entries.reserve_exact((len / 4).max(BLOCK)) {
-        Ok(()) => Ok(()),
-        Err(_) => Err(NoMemory),
-    }
+    grow(head, entries)
 }
 
 /// Appends what a line counts for; after want of memory the entries are as before.
-pub(crate) fn append(entries: &mut Vec<Entry>, counted: Counted) -> Result<(), NoMemory>
+#[inline(always)]
+pub(crate) fn append(
+    head: &Head,
+    entries: &mut Vec<Entry>,
+    counted: Counted,
+) -> Result<(), NoMemory>
     ensures ok { OnOk result (entries.new.items ≡ entries.old.items ++ counted_list counted) }
     ensures err { OnErr result (entries.new.items ≡ entries.old.items) }
 {
-    make_room(entries)?;
-    let appended = match counted {
-        Counted::One(entry) => entries.extend_from_slice(&[entry]),
-        Counted::Two(entry, mirrored) => entries.extend_from_slice(&[entry, mirrored]),
-    };
-    match appended {
-        Ok(()) => Ok(()),
-        Err(_) => Err(NoMemory),
+    make_room(head, entries)?;
+    match counted {
+        Counted::One(entry) => entries.push_reserved(entry),
+        Counted::Two(entry, mirrored) => {
+            entries.push_reserved(entry);
+            entries.push_reserved(mirrored);
+        }
     }
+    Ok(())
 }

@@ -1,9 +1,9 @@
-ghost use Rattle.std.specs.Prelude.{◌≡◌, ℕ, ◌<◌, ◌≤◌, true, false, IsTrue, IfOk, IfSome, MatchOption};
+ghost use Rattle.std.specs.Prelude.{◌≡◌, ℕ, ◌<◌, ◌≤◌, true, false, IsTrue, IfOk, MatchOption};
 ghost use Rattle.mm_profile.specs.Lines.{words};
 ghost use Rattle.mm_profile.specs.Sizes.{number_at, are_numbers, is_general, is_square, square_head, limited_head, head_of};
 ghost use Rattle.mm_text.specs.Naturals.{StandsFor};
 
-use crate::number_words::{next_natural, plain_natural};
+use crate::number_words::next_natural;
 use crate::numerals::{Natural, read_natural};
 use crate::word_list::{next_word, three_words};
 use bern_base::Rule;
@@ -13,8 +13,8 @@ const MAX_SIDE: u32 = 4_194_304;
 
 const MAX_STATED: u32 = 16_777_216;
 
-/// The numbers of a line of two numbers, with any blanks.
-fn spaced_numbers(line: &[u8]) -> Option<(Natural, Natural)>
+/// The numbers of a line of two numbers.
+pub(crate) fn two_numbers(line: &[u8]) -> Option<(Natural, Natural)>
     ensures { MatchOption result
         (are_numbers 2 (words line.now) ≡ false)
         (λ n. (are_numbers 2 (words line.now) ≡ true)
@@ -27,31 +27,6 @@ fn spaced_numbers(line: &[u8]) -> Option<(Natural, Natural)>
         return None;
     }
     Some((first, second))
-}
-
-/// The same of a line with one blank between them and no other. None says nothing of the line.
-fn plain_numbers(line: &[u8]) -> Option<(Natural, Natural)>
-    ensures { IfSome result (λ n. (are_numbers 2 (words line.now) ≡ true)
-        × StandsFor n.0 (number_at (words line.now) 0)
-        × StandsFor n.1 (number_at (words line.now) 1)) }
-{
-    let (first, after_first) = plain_natural(line)?;
-    let second = read_natural(after_first)?;
-    Some((first, second))
-}
-
-/// The numbers of a line of two numbers.
-pub(crate) fn two_numbers(line: &[u8]) -> Option<(Natural, Natural)>
-    ensures { MatchOption result
-        (are_numbers 2 (words line.now) ≡ false)
-        (λ n. (are_numbers 2 (words line.now) ≡ true)
-        × StandsFor n.0 (number_at (words line.now) 0)
-        × StandsFor n.1 (number_at (words line.now) 1)) }
-{
-    match plain_numbers(line) {
-        Some(plain) => Some(plain),
-        None => spaced_numbers(line),
-    }
 }
 
 /// The numbers of a line of three numbers.

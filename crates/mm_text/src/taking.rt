@@ -1,12 +1,14 @@
-ghost use Rattle.std.specs.Prelude.{◌≡◌, ℕ, List, [], Ok, Err, IsTrue, IfOk, MatchResult};
+ghost use Rattle.std.specs.Prelude.{◌≡◌, ℕ, List, [], Ok, Err, ◌<◌, length, IsTrue, IfOk, IfSome, IsNone, MatchResult};
 ghost use Rattle.bern_base.specs.Matrix.{IsMatrix};
 ghost use Rattle.mm_profile.specs.Sizes.{is_square};
 ghost use Rattle.mm_profile.specs.Profile.{Numbered, table};
 ghost use Rattle.mm_text.specs.Tables.{table_rest, AfterLine, AfterAnyLine};
+ghost use Rattle.mm_text.specs.Readings.{TakesFirst, Stays};
 
 use crate::counting::next_entry;
 use crate::due::{Due, all_due};
 use crate::error::LineError;
+use crate::plain_lines::next_plain;
 use crate::room::{append, room_for};
 use crate::sums::matrix_of;
 use crate::table::Table;
@@ -37,7 +39,7 @@ impl Table {
         ensures { AfterLine self.old line.now self.new result }
     {
         match next_entry(&self.head, self.due, line) {
-            Ok((counted, due)) => match append(&mut self.counted, counted) {
+            Ok((counted, due)) => match append(&self.head, &mut self.counted, counted) {
                 Ok(()) => {
                     self.due = due;
                     Ok(())
@@ -56,6 +58,24 @@ impl Table {
             return Ok(());
         }
         self.take(line)
+    }
+
+    /// Takes the plain entry line at the start of a piece, and gives what stands after it. None leaves the table as it was, and says nothing of the piece.
+    pub(crate) fn take_plain<'a>(&mut self, piece: &'a [u8]) -> Option<&'a [u8]>
+        ensures some { IfSome result (λ rest. TakesFirst self.old piece.now self.new rest.now) }
+        ensures none { IsNone result → Stays self.old self.new }
+        ensures shorter { IfSome result (λ rest. length rest.now < length piece.now) }
+    {
+        let Some((counted, due, rest)) = next_plain(&self.head, self.due, piece) else {
+            return None;
+        };
+        match append(&self.head, &mut self.counted, counted) {
+            Ok(()) => {
+                self.due = due;
+                Some(rest)
+            }
+            Err(NoMemory) => None,
+        }
     }
 
     /// The matrix, where no more lines are due.

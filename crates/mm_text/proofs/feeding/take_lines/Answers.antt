@@ -22,7 +22,8 @@ loop-line-preserved c =
       reads = λ more.
           c.loop-line.invariant.reads more
           ∙ ap (lines_rest c.loop-line.table c.loop-line.next) (lines_split c.loop-line.rest.now c.in-Some.line.now c.in-Some.after.now more c.in-Some.ensures.0 c.in-Some.ensures.1)
-          ∙ (rw c.without_return.ensures at (c.in-Ok.ensures c.loop-line.next (lines (c.in-Some.after.now ++ more))));
-      number = omega (arith, split, c.loop-line.invariant.number);
-      shorter = omega (arith, split, c.loop-line.invariant.shorter);
+          ∙ (rw c.without_return.ensures at (c.in-Ok.ensures c.loop-line.next (lines (c.in-Some.after.now ++ more))))
+          ∙ c.take_plain_lines-later.ensures.lines more;
+      number = omega (arith, split, c.loop-line.invariant.number, c.take_plain_lines-later.ensures.number);
+      shorter = omega (arith, split, c.loop-line.invariant.shorter, c.take_plain_lines-later.ensures.shorter);
     }

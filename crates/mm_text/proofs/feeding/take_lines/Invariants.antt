@@ -6,7 +6,7 @@ use Rattle.mm_text.proofs.feeding.take_lines.Given as goal
 
 abbrev pub invariant-loop-line : goal.invariant-loop-line
 invariant-loop-line l = record {
-  reads : (more : List ℕ) → lines_rest l.initial.table l.fn.number (lines (l.fn.piece ++ more)) ≡ lines_rest l.table l.next (lines (l.rest ++ more));
+  reads : (more : List ℕ) → lines_rest l.fn.table l.fn.number (lines (l.fn.piece ++ more)) ≡ lines_rest l.table l.next (lines (l.rest ++ more));
   number : l.next + length l.rest ≤ l.fn.number + length l.fn.piece;
   shorter : length l.rest ≤ length l.fn.piece;
 }

@@ -2,7 +2,7 @@
 use Rattle.std.proofs.Common.{◌≡◌, ◌^◌, ◌<◌, true, take}
 use Rattle.std.specs.List.{list_all}
 use Rattle.mm_profile.specs.Numbers.{is_digit, natural}
-use Rattle.mm_text.proofs.numerals.digits_front.Given as goal
+use Rattle.mm_text.proofs.numerals.few_digits.Given as goal
 
 abbrev pub invariant-loop-at : goal.invariant-loop-at
 invariant-loop-at l = record {
