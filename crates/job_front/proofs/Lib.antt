@@ -1,1 +1,4 @@
 pub mod ReadableLemmas
+pub mod AnswerLemmas
+pub mod LevelLemmas
+pub mod RunLemmas

@@ -27,7 +27,7 @@ none : {X : Type 0} (P : X → Type 0) → All P []
 none P k d within = absurd (omega (arith, within))
 
 -- what each thing has, all have
-spread_all : {A : Type 0} (Is : A → _ → Type 0) (P : A → Type 0) → ((x : A) (ts : _) → Is x ts → P x) → (xs : List A) (ts : _) → Spread Is xs ts → All P xs
+pub spread_all : {A : Type 0} (Is : A → _ → Type 0) (P : A → Type 0) → ((x : A) (ts : _) → Is x ts → P x) → (xs : List A) (ts : _) → Spread Is xs ts → All P xs
 spread_all Is P tells [] ts is = none P
 spread_all Is P tells (x ∷ xs) ts is = All-cons P x xs (tells x is.0 is.3) (spread_all Is P tells xs is.1 is.4)
 
@@ -94,15 +94,17 @@ form_readable (form.Format name shape) text is = tt
 form_readable (form.Array name extents format axis place file) text is = tt
 form_readable (form.Print name) text is = tt
 
-abbrev Readable : JobLine → Type 0
-Readable line = IsReadableForm line.form
+-- what each form of a text has, the form of each line has that is read
+module _ (P : Form → Type 0) (each : (f : Form) (text : List ℕ) → IsForm f text → P f) where
+  abbrev Has : JobLine → Type 0
+  Has line = P line.form
 
-read_readable : (texts : List Numbered) (forms : List JobLine) (broken : Option ℕ) → IsRead texts forms broken → All Readable forms
-read_readable [] [] broken is = none Readable
-read_readable [] (f ∷ forms) broken is = absurd is
-read_readable (text ∷ texts) [] broken is = none Readable
-read_readable (text ∷ texts) (f ∷ forms) broken is = All-cons Readable f forms (form_readable f.form text.1 is.1) (read_readable texts forms broken is.2)
+  pub read_all : (texts : List Numbered) (forms : List JobLine) (broken : Option ℕ) → IsRead texts forms broken → All (λ line. P line.form) forms
+  read_all [] [] broken is = none Has
+  read_all [] (f ∷ forms) broken is = absurd is
+  read_all (text ∷ texts) [] broken is = none Has
+  read_all (text ∷ texts) (f ∷ forms) broken is = All-cons Has f forms (each f.form text.1 is.1) (read_all texts forms broken is.2)
 
 -- what is read from bytes is fit for the rules
 pub job_readable : (bytes : List ℕ) (text : JobText) → IsJob bytes text → IsReadableText text
-job_readable bytes text is = read_readable (numbered 1 (lines bytes)) text.lines text.broken is
+job_readable bytes text is = read_all IsReadableForm form_readable (numbered 1 (lines bytes)) text.lines text.broken is

@@ -1,1 +1,3 @@
+pub mod CanRun
 pub mod Front
+pub mod Unbuilt

@@ -4,7 +4,10 @@
 #![tactic(auto)]
 
 mod front;
+mod laws;
 #[cfg(test)]
 mod tests;
+mod unbuilt;
 
-pub use front::take_job;
+pub use front::{take_built_job, take_job};
+pub use laws::{accepted_jobs_run, built_bytes_have_one_answer};

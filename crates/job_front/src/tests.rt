@@ -1,4 +1,4 @@
-use crate::take_job;
+use crate::{take_built_job, take_job};
 use bern_base::{Axis, Rule};
 use job_rules::CheckError;
 use std::alloc::Global;
@@ -111,6 +111,74 @@ fn the_least_line_counts(rt: HostRuntime) -> Result<(), Fail> {
             rule: Rule::J4
         })
     );
+    Ok(())
+}
+
+/// The line and the rule by which a text is refused, if it is, while some forms are not built yet.
+fn refusal_of(alloc: Global, text: &[u8]) -> Result<Option<(u64, Rule)>, Fail> {
+    match take_built_job(alloc, text) {
+        Ok(_) => Ok(None),
+        Err(CheckError::Refused { line, rule }) => Ok(Some((line, rule))),
+        Err(CheckError::NoMemory) => Err(Fail::from(CheckError::NoMemory)),
+    }
+}
+
+#[test]
+fn the_first_line_that_is_not_built_is_refused(rt: HostRuntime) -> Result<(), Fail> {
+    let cases: [(&'static [u8], u64); 6] = [
+        (b"extent n 3\nplace l n listed owners.txt\n", 2),
+        (b"format d diagonal -1 0 1\n", 1),
+        (b"format s permute order.txt row dense > col packed\n", 1),
+        (
+            b"\nextent n 3\nformat d diagonal 0\nplace l n listed owners.txt\n",
+            3,
+        ),
+        (b"extent n 3\nplace n n listed owners.txt\n", 2),
+        (b"format d diagonal 0\nextent\n", 1),
+    ];
+    for (text, line) in cases {
+        assert_eq!(&rt; refusal_of(rt.alloc(), text)?, Some((line, Rule::U2)));
+    }
+    Ok(())
+}
+
+#[test]
+fn an_earlier_refusal_comes_before_a_line_that_is_not_built(rt: HostRuntime) -> Result<(), Fail> {
+    let cases: [(&'static [u8], u64, Rule); 3] = [
+        (b"print W\nformat d diagonal 0\n", 1, Rule::J4),
+        (b"extent n 0\nplace l n listed owners.txt\n", 1, Rule::J15),
+        (
+            b"extent\nformat s permute order.txt row dense > col packed\n",
+            1,
+            Rule::J2,
+        ),
+    ];
+    for (text, line, rule) in cases {
+        assert_eq!(&rt; refusal_of(rt.alloc(), text)?, Some((line, rule)));
+    }
+    Ok(())
+}
+
+#[test]
+fn a_job_of_built_forms_is_taken_as_ever(rt: HostRuntime) -> Result<(), Fail> {
+    assert_eq!(&rt; refusal_of(rt.alloc(), HEAD)?, None);
+    assert_eq!(&rt; refusal_of(rt.alloc(), b"")?, None);
+    assert_eq!(&rt;
+        refusal_of(rt.alloc(), b"extent n 3\nextent n 3\n")?,
+        Some((2, Rule::J3))
+    );
+    Ok(())
+}
+
+#[test]
+fn a_job_that_is_too_long_is_refused_as_a_whole(rt: HostRuntime) -> Result<(), Fail> {
+    let mut text = vec![in rt.alloc(); b'#'; 1_048_577]?;
+    assert_eq!(&rt;
+        refusal_of(rt.alloc(), text.as_slice())?,
+        Some((0, Rule::J1))
+    );
+    text.truncate(1_048_576);
+    assert_eq!(&rt; refusal_of(rt.alloc(), text.as_slice())?, None);
     Ok(())
 }
 
