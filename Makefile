@@ -1,4 +1,5 @@
-# For users: `make` builds the proved program, `make run` runs the example, `make test` is the gate.
+# For users: `make` builds the proved program, `make run` runs an example, `make examples` runs all of them and compares
+# what they print, `make test` is the gate.
 PREFIX ?= /usr/local
 
 all: bin/bernoulli
@@ -10,10 +11,13 @@ bin/bernoulli: $(shell find crates -path '*/out' -prune -o \( -name '*.rt' -o -n
 	@cd crates/bernoulli && { rt run >out/build.log 2>&1 || true; } && { test -x out/bernoulli || { cat out/build.log; exit 1; }; }
 	cp crates/bernoulli/out/bernoulli bin/bernoulli
 
-.PHONY: all run test install clean
+.PHONY: all run examples test install clean
 
 run: bin/bernoulli
 	cd examples/product && ../../bin/bernoulli run job.txt 1
+
+examples: bin/bernoulli
+	sh examples/check.sh
 
 test:
 	rt ci

@@ -1,7 +1,7 @@
 pub mod WritingLemmas
-pub mod ScanLemmas
-pub mod JobLemmas
-pub mod AgreesLemmas
 pub mod CommandLemmas
+pub mod WordLemmas
+pub mod ArrayLemmas
+pub mod LoadLemmas
+pub mod AgreesLemmas
 pub mod TopLemmas
-pub mod ProductJobLemmas

@@ -1,10 +1,8 @@
 pub mod Answers
+pub mod Arrays
 pub mod Asked
 pub mod Commands
-pub mod FixedJob
 pub mod Lines
-pub mod Product
-pub mod ProductJob
-pub mod Scan
+pub mod Loading
 pub mod Walk
 pub mod Top

@@ -1,7 +1,7 @@
 -- What the top call says of its status, of what was written, and of the faults.
 use Rattle.std.specs.Prelude.{◌≡◌, ℕ, ◌⊎◌, Bool, List, Option, IsSome, IfSome}
 use Rattle.std.specs.Io.KnownBytes.{Appends, Keeps}
-use Rattle.bern_base.specs.declared.refusal.Rule.TheVariants.{U1}
+use Rattle.bern_base.specs.declared.refusal.Rule.{Rule}
 use Rattle.bern_base.specs.declared.refusal.Refusal.{Refusal}
 use Rattle.bern_base.specs.declared.refusal.Refusal.TheVariants.{Words}
 use Rattle.bern_ports.specs.Causes.{Rose}
@@ -11,17 +11,16 @@ use Rattle.file_walk.specs.declared.load_error.LoadError.TheVariants as e
 use Rattle.file_walk.specs.Answers.{IsBlamed}
 use Rattle.bern_top.specs.Answers.{Port, StopsWithin, HasLine}
 use Rattle.bern_top.specs.Lines.{refusal_line, read_fault_line, write_fault_line, memory_line}
-use Rattle.bern_top.specs.Asked.{IsNoCommand}
-use Rattle.bern_top.specs.Commands.{Command, IsCommand}
+use Rattle.bern_top.specs.Commands.{Command, IsCommand, RefusesWords}
 use Rattle.bern_top.specs.Walk.{Done, Refuses, Runs, Comes}
 
 -- the text that is due for these words
 abbrev pub IsDue : Files → List (List ℕ) → List ℕ → Type 0
 IsDue files words text = (c : Command) × IsCommand words c × Runs files c (Done text)
 
--- the first refusal of these words
+-- the first refusal: of the words by their first broken rule, or of what their command comes to
 abbrev pub IsRefused : Files → List (List ℕ) → Refusal → Type 0
-IsRefused files words refusal = (IsNoCommand words × (refusal ≡ Words U1)) ⊎ ((c : Command) × IsCommand words c × Runs files c (Refuses refusal))
+IsRefused files words refusal = ((rule : Rule) × RefusesWords words rule × (refusal ≡ Words rule)) ⊎ ((c : Command) × IsCommand words c × Runs files c (Refuses refusal))
 
 -- the counts of a shelf's faults, of all calls and of those on each name, and whether it is sure
 pub record Faults : Type 0 where
@@ -31,7 +30,7 @@ pub record Faults : Type 0 where
 
 -- a name that the command comes to
 abbrev pub IsVisited : Files → List (List ℕ) → List ℕ → Type 0
-IsVisited files words name = (c : Command) × IsCommand words c × Comes files c.job name
+IsVisited files words name = (c : Command) × IsCommand words c × Comes files c name
 
 -- a fault at this name has its cause: the command comes to it, it is not there, or its count rose and the shelf is not sure, and no other
 -- name's count changed
@@ -57,7 +56,7 @@ SaysRefused files words out err status =
 
 -- refused words are refused, whatever fails
 abbrev pub SaysWords : List (List ℕ) → Port → Port → ℕ → Type 0
-SaysWords words out err status = IsNoCommand words → (status ≡ 2) × Keeps out.old out.new × HasLine err (refusal_line (Words U1))
+SaysWords words out err status = (rule : Rule) → RefusesWords words rule → (status ≡ 2) × Keeps out.old out.new × HasLine err (refusal_line (Words rule))
 
 -- 3 comes only where the shelf's count rose, with a name at which the fault has its cause, and nothing on out
 abbrev pub SaysReadFault : Option Files → List (List ℕ) → Faults → Faults → Port → Port → ℕ → Type 0

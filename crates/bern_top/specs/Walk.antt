@@ -1,66 +1,84 @@
 -- What a command comes to over told files, in the order in which it reads them: its text, the first refusal, or a file that is not there.
-use Rattle.std.specs.Prelude.{◌≡◌, ℕ, ◌⊎◌, Bool, if◌then◌else◌, List, [], ◌∷◌, ◌++◌, slice_index_or, MatchOption, Some, Result, Ok, Err}
-use Rattle.bern_base.specs.declared.matrix.Entry.{Entry}
-use Rattle.bern_base.specs.declared.matrix.Matrix.{Matrix}
-use Rattle.bern_base.specs.declared.refusal.Rule.TheVariants.{U2}
+use Rattle.std.specs.Prelude.{◌≡◌, ℕ, ◌≤◌, ◌⊎◌, Bool, true, false, nat_lt, if◌then◌else◌, List, ◌++◌, MatchOption, Option, Some, None}
+use Rattle.bern_base.specs.declared.job.Checked.{Checked}
+use Rattle.bern_base.specs.declared.refusal.Rule.{Rule}
+use Rattle.bern_base.specs.declared.refusal.Rule.TheVariants.{U2, F7}
 use Rattle.bern_base.specs.declared.refusal.Refusal.{Refusal}
 use Rattle.bern_base.specs.declared.refusal.Refusal.TheVariants.{File}
 use Rattle.bern_ports.specs.Files.{Files, bytes_of}
-use Rattle.dense_model.specs.Dense.{due_text}
-use Rattle.file_walk.specs.declared.uses.Use.{Use}
-use Rattle.file_walk.specs.Walk.{ComesTo, Missing, Refused, Stop, arrays}
-use Rattle.rank_scripts.specs.Scripts.{total}
+use Rattle.file_walk.specs.Walk.{ComesTo, Missing, Refused, Stop, stop_of_walk}
+use Rattle.job_front.specs.Unbuilt.{AcceptsBuilt, RefusesBuiltAt}
+use Rattle.job_weight.specs.Weight.{weight_of, most_weight}
+use Rattle.nest_model.specs.Nests.{end_state, first_state}
 use Rattle.rank_model.specs.Letters.{scripts}
+use Rattle.rank_node.specs.Jobs.{is_whole}
+use Rattle.rank_product.specs.Runs.{run_of}
+use Rattle.rank_product.specs.Shapes.{IsProduct}
+use Rattle.rank_product.specs.declared.shape.ProductShape.{ProductShape}
+use Rattle.rank_scripts.specs.Scripts.{total}
+use Rattle.bern_top.specs.Arrays.{entries_in, matrices_from, uses_of}
 use Rattle.bern_top.specs.Commands.{Command}
-use Rattle.bern_top.specs.FixedJob.{ProductJob, IsFixedJob}
-use Rattle.bern_top.specs.Product.{product_run, events_text}
+use Rattle.job_runs.specs.Texts.{arrays_text, events_text}
 
 pub data Ending : Type 0 where
   Done : (text : List ℕ) → Ending
   Refuses : (refusal : Refusal) → Ending
   Absent : (name : List ℕ) → Ending
 
--- the text that is due: the product, and the number of events where it is to be told
-abbrev pub product_text : ℕ → Bool → ℕ → List Entry → List Entry → List ℕ
-product_text ranks events n a x = due_text n a x ++ (if events then events_text (total (scripts (product_run n ranks a x))) else [])
+-- the arrays of the print lines behind the last nest
+abbrev pub run_text : Files → Checked → List ℕ
+run_text files job = arrays_text job (end_state job (first_state (entries_in files) job.arrays))
 
--- the uses of files: one by the matrix, and one by the vector, which has one column
-abbrev pub uses_of : ProductJob → List Use
-uses_of j = record { file = j.matrix; rows = j.size; cols = j.size } ∷ record { file = j.vector; rows = j.size; cols = 1 } ∷ []
+-- the same, and how many events the ranks took
+abbrev pub replay_text : Files → ℕ → Checked → ProductShape → List ℕ
+replay_text files ranks job product =
+    run_text files job ++ events_text (total (scripts (run_of (is_whole job) product ranks (matrices_from (entries_in files) job.arrays))))
 
--- the entries of the matrix of a use
-abbrev pub entries_at : List Matrix → ℕ → List Entry
-entries_at ms number = (slice_index_or ms number (record { rows = 0; cols = 0; entries = [] })).entries
+-- the files have a matrix for each use, and the text is due, or the walk over them stops
+abbrev pub walked : List ℕ → Option Stop → Ending
+walked text None = Done text
+walked text (Some (Refused refusal)) = Refuses refusal
+walked text (Some (Missing name)) = Absent name
 
--- the files have a matrix for each use, with which the run goes on, or the walk stops
-abbrev pub walked : (List Matrix → Ending) → Result (List Matrix) Stop → Ending
-walked next (Ok ms) = next ms
-walked next (Err (Refused refusal)) = Refuses refusal
-walked next (Err (Missing name)) = Absent name
+-- F7 without files stands before the files
+abbrev pub files_stop : Files → List ℕ → ℕ → Checked → Option Stop
+files_stop files name ranks job =
+    if nat_lt most_weight (weight_of job ranks) then Some (Refused (File name 0 F7))
+    else stop_of_walk files (weight_of job ranks) (uses_of job.arrays)
 
-abbrev pub files_ending : Files → ℕ → Bool → ProductJob → Ending
-files_ending files ranks events j = walked (λ ms. Done (product_text ranks events j.size (entries_at ms 0) (entries_at ms 1))) (arrays files (uses_of j))
+abbrev pub files_ending : Files → List ℕ → ℕ → Checked → List ℕ → Ending
+files_ending files name ranks job text = walked text (files_stop files name ranks job)
 
--- a file is read, or it is not there
-abbrev pub Reads : Files → List ℕ → (List ℕ → Ending → Type 0) → Ending → Type 0
-Reads files name next ending = MatchOption (bytes_of files name) (ending ≡ Absent name) (λ bytes. next bytes ending)
+-- a replay is of a job of one product on ranks; any other job is not built yet, which is U2 at line 0
+abbrev pub Replays : Files → List ℕ → ℕ → Checked → Ending → Type 0
+Replays files name ranks job ending =
+    ((product : ProductShape) × IsProduct job product × (ending ≡ files_ending files name ranks job (replay_text files ranks job product)))
+    ⊎ (((product : ProductShape) → IsProduct job product → ⊥) × (ending ≡ Refuses (File name 0 U2)))
 
--- the bytes spell some x, with which the run goes on; or they spell none, and are refused
-abbrev pub Spells : {X : Type 0} → (X → Type 0) → (X → Ending → Type 0) → Refusal → Ending → Type 0
-Spells {X} IsSpelled next refusal ending =
-    ((x : X) × IsSpelled x × next x ending) ⊎ (((x : X) → IsSpelled x → ⊥) × (ending ≡ Refuses refusal))
+-- what an accepted job comes to
+abbrev pub RunsJob : Files → List ℕ → ℕ → Bool → Checked → Ending → Type 0
+RunsJob files name ranks false job ending = ending ≡ files_ending files name ranks job (run_text files job)
+RunsJob files name ranks true job ending = Replays files name ranks job ending
 
-abbrev pub EndsAs : Files → Command → ProductJob → Ending → Type 0
-EndsAs files c j ending = ending ≡ files_ending files c.ranks c.events j
+-- the bytes are an accepted job, or they are refused at their first broken rule
+abbrev pub RunsBytes : Files → Command → List ℕ → Ending → Type 0
+RunsBytes files c bytes ending =
+    ((job : Checked) × AcceptsBuilt bytes job × RunsJob files c.job c.ranks c.events job ending)
+    ⊎ ((line : ℕ) × (rule : Rule) × RefusesBuiltAt bytes line rule × (ending ≡ Refuses (File c.job line rule)))
 
-abbrev pub SpellsJob : Files → Command → List ℕ → Ending → Type 0
-SpellsJob files c bytes ending = Spells (IsFixedJob bytes) (EndsAs files c) (File c.job 0 U2) ending
-
--- the command comes to this end
+-- the command comes to this end: its job file is not there, or it runs its bytes
 abbrev pub Runs : Files → Command → Ending → Type 0
-Runs files c ending = Reads files c.job (SpellsJob files c) ending
+Runs files c ending = MatchOption (bytes_of files c.job) (ending ≡ Absent c.job) (λ bytes. RunsBytes files c bytes ending)
 
--- the names that the command comes to: the job, and where it spells a form those that the walk of its files comes to
-abbrev pub Comes : Files → List ℕ → List ℕ → Type 0
-Comes files job name =
-    (name ≡ job) ⊎ ((bytes : List ℕ) × (j : ProductJob) × (bytes_of files job ≡ Some bytes) × IsFixedJob bytes j × ComesTo files (uses_of j) name)
+-- the files of this job are walked: where events are told it is one product
+abbrev pub IsWalked : ℕ → Bool → Checked → Type 0
+IsWalked ranks false job = weight_of job ranks ≤ most_weight
+IsWalked ranks true job = (weight_of job ranks ≤ most_weight) × ((product : ProductShape) × IsProduct job product)
+
+-- the names that the command comes to: the job, and where it is accepted those that the walk of its files comes to
+abbrev pub ComesToFile : Files → Command → List ℕ → Type 0
+ComesToFile files c name =
+    (bytes : List ℕ) × (job : Checked) × (bytes_of files c.job ≡ Some bytes) × AcceptsBuilt bytes job × IsWalked c.ranks c.events job × ComesTo files (weight_of job c.ranks) (uses_of job.arrays) name
+
+abbrev pub Comes : Files → Command → List ℕ → Type 0
+Comes files c name = (name ≡ c.job) ⊎ ComesToFile files c name

@@ -1,12 +1,10 @@
 //! The commands: words, the run over their files, and what is written to the two streams.
 #![tactic(auto)]
 
+mod arrays;
 mod commands;
-mod events;
-mod fixed_job;
-mod job;
 mod lines;
-mod ranks;
+mod loading;
 mod run;
 mod scan;
 #[cfg(test)]

@@ -305,27 +305,45 @@ fn a_last_line_may_lack_its_end(rt: HostRuntime) -> Result<(), Fail> {
     Ok(())
 }
 
-/// Words that are no command.
-const OTHER_WORDS: &[&[&str]] = &[
-    &[],
-    &["run", "job.txt"],
-    &["run", "job.txt", "0"],
-    &["run", "job.txt", "65"],
-    &["run", "job.txt", "02"],
-    &["run", "job.txt", "+1"],
-    &["walk", "job.txt", "1"],
-    &["replay", "job.txt", "2"],
-    &["replay", "job.txt", "2", "-1"],
-    &["replay", "job.txt", "2", "18446744073709551616"],
+/// Words that are no command that is built, and the first rule that they break.
+const OTHER_WORDS: &[(&[&str], &[u8])] = &[
+    (&[], b"refused words C1\n"),
+    (&["walk", "job.txt", "1"], b"refused words C1\n"),
+    (&["--help"], b"refused words C1\n"),
+    (&["run", "job.txt"], b"refused words C2\n"),
+    (&["run", "job.txt", "1", "2"], b"refused words C2\n"),
+    (&["plan"], b"refused words C2\n"),
+    (&["replay", "job.txt", "2"], b"refused words C2\n"),
+    (&["exercise", "0"], b"refused words C2\n"),
+    (&["run", "job.txt", "0"], b"refused words C3\n"),
+    (&["run", "job.txt", "65"], b"refused words C3\n"),
+    (&["report", "job.txt", "02"], b"refused words C3\n"),
+    (&["sets", "job.txt", "+1"], b"refused words C3\n"),
+    (&["replay", "job.txt", "0", "-1"], b"refused words C3\n"),
+    (&["exercise", "-1", "0"], b"refused words C3\n"),
+    (&["replay", "job.txt", "2", "-1"], b"refused words C4\n"),
+    (
+        &["replay", "job.txt", "2", "18446744073709551616"],
+        b"refused words C4\n",
+    ),
+    (&["exercise", "01", "1"], b"refused words C4\n"),
+    (&["report", "job.txt", "1"], b"refused words U1\n"),
+    (&["plan", "job.txt"], b"refused words U1\n"),
+    (&["sets", "job.txt", "64"], b"refused words U1\n"),
+    (
+        &["exercise", "18446744073709551615", "8"],
+        b"refused words U1\n",
+    ),
 ];
 
 #[test]
-fn other_words_are_refused(rt: HostRuntime) -> Result<(), Fail> {
+fn other_words_are_refused_by_their_first_rule(rt: HostRuntime) -> Result<(), Fail> {
     let alloc = rt.alloc();
-    for all in OTHER_WORDS {
+    for (all, line) in OTHER_WORDS {
         let seen = first_job(alloc, all, no_fails(alloc), Items::new(alloc))?.ok_or("twice")?;
         assert_eq!(rt; seen.status, 2);
-        assert_eq!(rt; seen.err.bytes(), b"refused words U1\n".as_slice());
+        assert_eq!(rt; seen.out.bytes(), b"".as_slice());
+        assert_eq!(rt; seen.err.bytes(), *line);
     }
     Ok(())
 }
@@ -344,6 +362,120 @@ fn a_file_that_is_named_twice_is_begun_once(rt: HostRuntime) -> Result<(), Fail>
     assert_eq!(rt; seen.status, 0);
     // The job's file and the one matrix file.
     assert_eq!(rt; shelf.begun, 2);
+    Ok(())
+}
+
+/// The declarations of three arrays over an extent of 3, the files of two of them, and the vector Y.
+const HEAD: &[u8] =
+    b"extent n 3\nplace p n block\nformat csr row dense > col packed\nformat full col dense > row dense\nformat vec row dense\narray A n,n csr row by p from a.mtx\narray X n vec row by p from x.mtx\narray Y n vec row by p zero\narray D n,n full row by p zero\n";
+
+/// The outcome of a command over a job of these lines behind the declarations.
+fn job_of(alloc: Global, lines: &[u8], all: &[&str]) -> Result<Option<Outcome>, NoMemory> {
+    let mut job = Text::from_bytes(alloc, HEAD)?;
+    job.append(lines)?;
+    match shelf(alloc, job.as_bytes(), MATRIX, VECTOR, no_fails(alloc))? {
+        Some(mut shelf) => Ok(Some(outcome_of(alloc, all, &mut shelf, Items::new(alloc))?)),
+        None => Ok(None),
+    }
+}
+
+/// Nests and print lines, and what is printed behind the first line of each array.
+const LINES: &[(&[u8], &[u8])] = &[
+    (
+        b"doany i 0..n j 0..n where i<j : Y[i] += (A[i,j]+2)*X[j]\nprint Y\n",
+        b"% Y\n3 1\n13\n6\n0\n",
+    ),
+    (
+        b"doany i 0..2 : Y[2*i] += X[2-i]\nprint Y\n",
+        b"% Y\n3 1\n3\n0\n2\n",
+    ),
+    (
+        b"doany i 0..n j 0..n : D[i,j] = A[i,j]\nprint D\n",
+        b"% D\n3 3\n2\n0\n0\n0\n0\n5\n1\n0\n0\n",
+    ),
+    (
+        b"doany i 0..n j 0..n : Y[i] += A[i,j]*X[j]\ndoany i 0..n : Y[i] = -Y[i]\nprint Y\n",
+        b"% Y\n3 1\n-5\n0\n-10\n",
+    ),
+    (b"print X\n", b"% X\n3 1\n1\n2\n3\n"),
+];
+
+#[test]
+fn each_nest_leaves_what_its_dense_loop_leaves(rt: HostRuntime) -> Result<(), Fail> {
+    let alloc = rt.alloc();
+    for (lines, due) in LINES {
+        for ranks in ["1", "2", "64"] {
+            let seen = job_of(alloc, lines, &["run", "job.txt", ranks])?.ok_or("twice")?;
+            let mut text = Text::from_bytes(
+                alloc,
+                b"%%MatrixMarket matrix array integer general\n",
+            )?;
+            text.append(due)?;
+            assert_eq!(rt; seen.status, 0);
+            assert_eq!(rt; seen.out.bytes(), text.as_bytes());
+        }
+    }
+    Ok(())
+}
+
+#[test]
+fn a_job_without_print_lines_prints_nothing(rt: HostRuntime) -> Result<(), Fail> {
+    let alloc = rt.alloc();
+    let seen = job_of(
+        alloc,
+        b"doany i 0..n : Y[i] += X[i]\n",
+        &["run", "job.txt", "3"],
+    )?
+    .ok_or("twice")?;
+    assert_eq!(rt; seen.status, 0);
+    assert_eq!(rt; seen.out.bytes(), b"".as_slice());
+    assert_eq!(rt; seen.err.bytes(), b"".as_slice());
+    Ok(())
+}
+
+/// Lines of jobs, the command's name and words behind the job, and the line of the refusal.
+const BROKEN: &[(&[u8], &[&str], &[u8])] = &[
+    (
+        b"doany i 0..n j 0..n : Y[i] = A[i,j]\n",
+        &["run", "job.txt", "1"],
+        b"refused job.txt:10 J13\n",
+    ),
+    (
+        b"format d diagonal 0\nformat d diagonal 0\n",
+        &["run", "job.txt", "1"],
+        b"refused job.txt:10 U2\n",
+    ),
+    (
+        b"doany i 0..n : Y[i] += X[i+1]\nplace q n listed o.mtx\n",
+        &["run", "job.txt", "1"],
+        b"refused job.txt:10 J10\n",
+    ),
+    (
+        b"doany i 0..n : Y[i] += X[i]\nprint Y\n",
+        &["replay", "job.txt", "2", "7"],
+        b"refused job.txt:0 U2\n",
+    ),
+    (
+        b"extent m 4097\nplace q m block\narray E m,m full row by q zero\n",
+        &["run", "job.txt", "1"],
+        b"refused job.txt:0 F7\n",
+    ),
+    (
+        b"extent m 2\nplace q m block\narray E m,m full row by q from a.mtx\n",
+        &["run", "job.txt", "1"],
+        b"refused a.mtx:0 F1\n",
+    ),
+];
+
+#[test]
+fn jobs_are_refused_by_their_first_rule(rt: HostRuntime) -> Result<(), Fail> {
+    let alloc = rt.alloc();
+    for (lines, all, line) in BROKEN {
+        let seen = job_of(alloc, lines, all)?.ok_or("twice")?;
+        assert_eq!(rt; seen.status, 2);
+        assert_eq!(rt; seen.out.bytes(), b"".as_slice());
+        assert_eq!(rt; seen.err.bytes(), *line);
+    }
     Ok(())
 }
 

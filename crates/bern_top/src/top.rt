@@ -65,17 +65,17 @@ pub fn bernoulli<F: Shelf, S: Sink, L: Ledger>(
         (record { old = S.written err.old; new = S.written err.new; before = S.faults err.old; now = S.faults err.new }) result }
 {
     match request_of(words) {
-        None => refuse_words(err),
-        Some(request) => run(alloc, words, request, shelf, out, err, steps),
+        Err(rule) => refuse_words(rule, err),
+        Ok(request) => run(alloc, words, request, shelf, out, err, steps),
     }
 }
 
 /// Refuses the words. It takes no memory.
-fn refuse_words<S: Sink>(err: &mut S) -> u8
+fn refuse_words<S: Sink>(rule: Rule, err: &mut S) -> u8
     ensures status { result ≡ 2 }
-    ensures line { HasLine (record { old = S.written err.old; new = S.written err.new; before = S.faults err.old; now = S.faults err.new }) (refusal_line (Refusal.Words Rule.U1)) }
+    ensures line { HasLine (record { old = S.written err.old; new = S.written err.new; before = S.faults err.old; now = S.faults err.new }) (refusal_line (Refusal.Words rule)) }
 {
-    match write_refusal(&Refusal::Words { rule: Rule::U1 }, err) {
+    match write_refusal(&Refusal::Words { rule }, err) {
         Ok(()) => REFUSED,
         Err(_) => REFUSED,
     }
@@ -112,7 +112,7 @@ fn loaded<F: Shelf, L: Ledger>(
     requires most { request.ranks ≤ 64 }
     ensures cause { HasFaultCause (F.faults shelf.old) (F.faults shelf.new) result }
     ensures blame { IfSome (F.files shelf.old) (BlamesOne (F.sure shelf.old) (F.faults_on shelf.old) (F.faults_on shelf.new) result) }
-    ensures told { IfSome (F.files shelf.old) (λ fs. Agrees (Runs fs (asked request.entry)) (Comes fs request.entry.job.now) result) }
+    ensures told { IfSome (F.files shelf.old) (λ fs. Agrees (Runs fs (asked request.entry)) (Comes fs (asked request.entry)) result) }
 {
     let Ok(job) = Text::from_bytes(alloc, request.job) else {
         return Err(LoadError::NoMemory);

@@ -1,5 +1,7 @@
 pub mod ShelfLemmas
 pub mod ReadingLemmas
 pub mod LoadingLemmas
-pub mod WalkLemmas
 pub mod MentionLemmas
+pub mod WeightLemmas
+pub mod WalkLemmas
+pub mod TotalLemmas

@@ -1,16 +1,23 @@
 -- Matrix files, from what was read of them to how they serve their uses.
-use Rattle.std.proofs.Common.{◌≡◌, ℕ, ◌+◌, ◌<◌, if◌then◌else◌, List, ◌++◌, length, length-append, Option, Result, Ok, Err, sym, ap, ◌∙◌, subst, arith}
-use Rattle.std.proofs.lemmas.Bool.{lt-ltb}
+use Rattle.std.proofs.Common.{◌≡◌, ℕ, ◌+◌, ◌<◌, ◌≤◌, Bool, true, false, nat_lt, if◌then◌else◌, List, ◌++◌, length, length-append, Option, Result, Ok, Err, sym, ap, ◌∙◌, subst, inl, inr, arith}
+use Rattle.std.specs.List.{list_all}
+use Rattle.std.proofs.lemmas.Bool.{le-ltb, lt-ltb}
 use Rattle.bern_base.specs.declared.matrix.Matrix.{Matrix}
-use Rattle.bern_base.specs.declared.refusal.Rule.TheVariants.{M12}
+use Rattle.bern_base.specs.declared.refusal.Rule.TheVariants.{F1, F7, M12}
+use Rattle.bern_base.specs.declared.refusal.Refusal.TheVariants.{File}
 use Rattle.bern_ports.specs.Files.{Files}
+use Rattle.job_weight.specs.Weight.{most_weight}
 use Rattle.mm_profile.specs.Lines.{lines}
-use Rattle.mm_profile.specs.Profile.{mm, file}
+use Rattle.mm_profile.specs.Profile.{and_then, mm, file}
 use Rattle.mm_text.specs.Feeds.{StandsForBytes}
 use Rattle.mm_text.specs.declared.feed.MatrixFeed.{MatrixFeed}
 use Rattle.file_walk.specs.declared.load_error.LoadError.{LoadError}
 use Rattle.file_walk.specs.declared.load_error.LoadError.TheVariants as e
+use Rattle.file_walk.specs.declared.uses.Use.{Use}
+use Rattle.file_walk.specs.declared.walking.Loaded.{Loaded}
 use Rattle.file_walk.specs.Answers.{IsOf, IsOfFile, LoadsMatrix, Stands}
+use Rattle.file_walk.specs.Serving.{IsTaken, Takes}
+use Rattle.file_walk.specs.Walk.{Refused, added, found, has, served, serves, weight_with, within_limit}
 
 -- what was read of a file is what it has
 pub of_loads : (files : Files) (name : List ℕ) (result : Result Matrix LoadError) → IsOfFile files name result → LoadsMatrix files name result
@@ -34,3 +41,35 @@ pub past_limit : (files : Files) (name bytes : List ℕ) (left : Option (List �
     Stands files name bytes left → StandsForBytes feed bytes → length bytes + more ≡ 67108865 → more ≡ 0 → ((bs : List ℕ) → StandsForBytes feed bs → IsOf name (mm bs) result) → LoadsMatrix files name result
 past_limit files name bytes left more feed result stands fed sum none is =
     of_loads files name result (bytes ++ stands.0, stands.2, subst (λ r. IsOf name r result) (mm_front bytes stands.0 (omega (arith, sum, none))) (is bytes fed))
+
+-- what rule F1 says of a file that was read
+read_serves : (files : Files) (uses : List Use) (name : List ℕ) (m : Matrix) (fits : Bool) → LoadsMatrix files name (Ok m) → list_all (serves name m) uses ≡ fits →
+    served files uses name ≡ (if fits then Ok m else Err (Refused (File name 0 F1)))
+read_serves files uses name m fits read is =
+    ap (found uses name) read.1 ∙ ap (has uses name) read.2 ∙ ap (λ b. if b then Ok m else Err (Refused (File name 0 F1))) is
+
+-- and what rule F7 says with it
+read_weighs : (files : Files) (uses : List Use) (weight : ℕ) (name : List ℕ) (m : Matrix) (past : Bool) → served files uses name ≡ Ok m → nat_lt most_weight (weight + added uses name m) ≡ past →
+    weight_with files uses weight name ≡ (if past then Err (Refused (File name 0 F7)) else Ok (weight + added uses name m))
+read_weighs files uses weight name m past serves is =
+    ap (λ r. and_then r (λ n. within_limit name (weight + added uses name n))) serves
+    ∙ ap (λ b. if b then Err (Refused (File name 0 F7)) else Ok (weight + added uses name m)) is
+
+-- the answer for a file that was read
+pub takes_read : (files : Files) (uses : List Use) (weight : ℕ) (name : List ℕ) (m : Matrix) (result : Result Loaded LoadError) → LoadsMatrix files name (Ok m) → IsTaken uses weight name m result → Takes files uses weight name result
+takes_read files uses weight name m (Ok l) read taken =
+    let sizes : list_all (serves name m) uses ≡ true = subst (λ n. list_all (serves name n) uses ≡ true) taken.0.0 taken.0.1 in
+    let is = read_serves files uses name m true read sizes in (
+      is ∙ ap (λ n. Ok n) (sym taken.0.0),
+      read_weighs files uses weight name m false is (le-ltb most_weight (weight + added uses name m) (subst (λ w. w ≤ most_weight) taken.1.1 taken.1.2))
+          ∙ ap (λ w. Ok w) (sym taken.1.1),
+    )
+takes_read files uses weight name m (Err (e.Refused r)) read taken = elim taken [
+  | inl sizes ↦
+      ap (λ s. and_then s (λ n. within_limit name (weight + added uses name n))) (read_serves files uses name m false read sizes.1) ∙ ap (λ k. Err (Refused k)) (sym sizes.0)
+  | inr past ↦
+      read_weighs files uses weight name m true (read_serves files uses name m true read past.0) (lt-ltb most_weight (weight + added uses name m) past.1.1)
+      ∙ ap (λ k. Err (Refused k)) (sym past.1.0)
+]
+takes_read files uses weight name m (Err (e.ReadFault fault)) read taken = elim taken [ inl sizes ↦ absurd sizes.0 | inr past ↦ absurd past.1.0 ]
+takes_read files uses weight name m (Err e.NoMemory) read taken = tt

@@ -1,49 +1,62 @@
--- A use of a file that was mentioned before stops no walk.
-use Rattle.std.proofs.Common.{◌≡◌, ℕ, not, cond, List, [], ◌∷◌, Result, Ok, Err, filter, refl, sym, ap, ◌∙◌, inl, inr}
-use Rattle.std.specs.Str.{bytes_eq}
-use Rattle.std.proofs.lemmas.Bool.{cases_Bool}
-use Rattle.std.proofs.lemmas.Slice.Eq.{bytes_eq-Decides}
-use Rattle.bern_base.specs.declared.matrix.Matrix.{Matrix}
-use Rattle.mm_profile.specs.Profile.{and_then}
+-- The files of uses by first mention, as the uses grow.
+use Rattle.std.proofs.Common.{◌≡◌, ℕ, Bool, true, false, ◌||◌, ◌&&◌, not, cond, List, [], ◌∷◌, ◌++◌, append-nil, filter, refl, sym, ap, ◌∙◌}
+use Rattle.std.specs.List.{list_any}
+use Rattle.std.proofs.lemmas.List.Elements.{filter-append}
 use Rattle.file_walk.specs.declared.uses.Use.{Use}
-use Rattle.file_walk.specs.Mentions.{mentioned, stop_of}
-use Rattle.file_walk.specs.Walk.{Stop, each}
+use Rattle.file_walk.specs.Mentions.{is_of, mentioned}
 
--- one step, and what follows it
-abbrev step : Result Matrix Stop → Result (List Matrix) Stop → Result (List Matrix) Stop
-step first rest = and_then first (λ y. and_then rest (λ ys. Ok (y ∷ ys)))
+abbrev pub is_other : Use → List ℕ → Bool
+is_other u name = not (is_of name u)
 
-step_stop : (first : Result Matrix Stop) (a b : Result (List Matrix) Stop) → stop_of a ≡ stop_of b → stop_of (step first a) ≡ stop_of (step first b)
-step_stop (Err stop) a b same = refl
-step_stop (Ok m) (Ok x) (Ok y) same = refl
-step_stop (Ok m) (Ok x) (Err t) same = same
-step_stop (Ok m) (Err s) (Ok y) same = same
-step_stop (Ok m) (Err s) (Err t) same = same
+-- none of these uses is of this file
+abbrev pub is_new : List Use → List ℕ → Bool
+is_new uses name = not (list_any (is_of name) uses)
 
-step_none : (m : Matrix) (rest : Result (List Matrix) Stop) → stop_of rest ≡ stop_of (step (Ok m) rest)
-step_none m (Ok x) = refl
-step_none m (Err stop) = refl
+not_or : (a b : Bool) → not (a || b) ≡ (not b && not a)
+not_or true true = refl
+not_or true false = refl
+not_or false true = refl
+not_or false false = refl
 
--- without a name that stops nothing
-without : (answer : List ℕ → Result Matrix Stop) (name : List ℕ) (m : Matrix) (names : List (List ℕ)) → answer name ≡ Ok m →
-    stop_of (each answer (filter (λ n. not (bytes_eq n name)) names)) ≡ stop_of (each answer names)
-without answer name m [] good = refl
-without answer name m (n ∷ names) good = elim (cases_Bool (bytes_eq n name)) [
-  | inl same ↦
-      ap (λ b. stop_of (each answer (cond (not b) (n ∷ filter (λ k. not (bytes_eq k name)) names) (filter (λ k. not (bytes_eq k name)) names)))) same
-      ∙ without answer name m names good
-      ∙ step_none m (each answer names)
-      ∙ ap (λ r. stop_of (step r (each answer names))) (sym (ap answer ((bytes_eq-Decides n name).0 same) ∙ good))
-  | inr other ↦
-      ap (λ b. stop_of (each answer (cond (not b) (n ∷ filter (λ k. not (bytes_eq k name)) names) (filter (λ k. not (bytes_eq k name)) names)))) other
-      ∙ step_stop (answer n) (each answer (filter (λ k. not (bytes_eq k name)) names)) (each answer names) (without answer name m names good)
-]
+filter_next : (p : List ℕ → Bool) (x : List ℕ) (b : Bool) (ys zs : List (List ℕ)) → filter p ys ≡ zs → filter p (cond b (x ∷ ys) ys) ≡ cond (b && p x) (x ∷ zs) zs
+filter_next p x true ys zs same = ap (λ l. cond (p x) (x ∷ l) l) same
+filter_next p x false ys zs same = same
 
-behind_first : (answer : List ℕ → Result Matrix Stop) (name : List ℕ) (first : Result Matrix Stop) (rest : Result (List Matrix) Stop) (names : List (List ℕ)) → answer name ≡ first → stop_of rest ≡ stop_of (each answer names) →
-    stop_of (step first rest) ≡ stop_of (step first (each answer (filter (λ n. not (bytes_eq n name)) names)))
-behind_first answer name (Err stop) rest names is same = refl
-behind_first answer name (Ok m) rest names is same = step_stop (Ok m) rest (each answer (filter (λ n. not (bytes_eq n name)) names)) (same ∙ sym (without answer name m names is))
+pub filter_filter : (p q r : List ℕ → Bool) → ((x : List ℕ) → r x ≡ (q x && p x)) → (xs : List (List ℕ)) → filter p (filter q xs) ≡ filter r xs
+filter_filter p q r both [] = refl
+filter_filter p q r both (x ∷ xs) =
+    filter_next p x (q x) (filter q xs) (filter r xs) (filter_filter p q r both xs) ∙ ap (λ b. cond b (x ∷ filter r xs) (filter r xs)) (sym (both x))
 
-pub by_first_mention : (answer : List ℕ → Result Matrix Stop) (uses : List Use) → stop_of (each (λ u. answer u.file) uses) ≡ stop_of (each answer (mentioned uses))
-by_first_mention answer [] = refl
-by_first_mention answer (u ∷ uses) = behind_first answer u.file (answer u.file) (each (λ v. answer v.file) uses) (mentioned uses) refl (by_first_mention answer uses)
+pub all_new : (names : List (List ℕ)) → names ≡ filter (is_new []) names
+all_new [] = refl
+all_new (n ∷ names) = ap (λ ns. n ∷ ns) (all_new names)
+
+-- later uses mention what earlier ones do not
+mentioned-append : (us vs : List Use) → mentioned (us ++ vs) ≡ mentioned us ++ filter (is_new us) (mentioned vs)
+mentioned-append [] vs = all_new (mentioned vs)
+mentioned-append (u ∷ us) vs =
+    ap (λ ns. u.file ∷ filter (is_other u) ns) (mentioned-append us vs)
+    ∙ ap (λ ns. u.file ∷ ns) (filter-append (is_other u) (mentioned us) (filter (is_new us) (mentioned vs)))
+    ∙ ap (λ ns. u.file ∷ filter (is_other u) (mentioned us) ++ ns)
+    (filter_filter (is_other u) (is_new us) (is_new (u ∷ us)) (λ n. not_or (is_of n u) (list_any (is_of n) us)) (mentioned vs))
+
+-- one more use, of a file that was mentioned
+pub mentioned_again : (us : List Use) (u : Use) → list_any (is_of u.file) us ≡ true → mentioned (us ++ u ∷ []) ≡ mentioned us
+mentioned_again us u known = mentioned-append us (u ∷ []) ∙ ap (λ b. mentioned us ++ cond (not b) (u.file ∷ []) []) known ∙ append-nil (mentioned us)
+
+-- and of one that was not
+pub mentioned_first : (us : List Use) (u : Use) → list_any (is_of u.file) us ≡ false → mentioned (us ++ u ∷ []) ≡ mentioned us ++ u.file ∷ []
+mentioned_first us u new = mentioned-append us (u ∷ []) ∙ ap (λ b. mentioned us ++ cond (not b) (u.file ∷ []) []) new
+
+-- the files around one that is mentioned for the first time
+pub record Around (us all : List Use) (u : Use) : Type 0 where
+  pub behind : List (List ℕ)
+  pub are : mentioned all ≡ mentioned us ++ u.file ∷ behind
+
+pub around : (us vs all : List Use) (u : Use) → all ≡ us ++ u ∷ vs → list_any (is_of u.file) us ≡ false → Around us all u
+around us vs all u split new =
+    let rest : List (List ℕ) = filter (is_new us) (filter (is_other u) (mentioned vs)) in
+    record {
+      behind = rest;
+      are = ap mentioned split ∙ mentioned-append us (u ∷ vs) ∙ ap (λ b. mentioned us ++ cond (not b) (u.file ∷ rest) rest) new;
+    }

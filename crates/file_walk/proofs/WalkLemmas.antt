@@ -1,20 +1,26 @@
--- Walks over uses, from the matrices of the first ones.
-use Rattle.std.proofs.Common.{◌≡◌, ℕ, zero, suc, ◌<◌, ◌≤◌, Bool, true, ◌||◌, ◌==◌, not, List, [], ◌∷◌, ◌++◌, length, get_or, Option, Some, None, Result, Ok, Err, IsOk, sym, ap, ◌∙◌, subst, refl, arith}
-use Rattle.std.specs.List.{All, AllZip, list_all, position, slice_get}
-use Rattle.std.proofs.lemmas.Bool.{and_parts}
-use Rattle.std.proofs.lemmas.Bool.Decides.{Decides-eqb}
-use Rattle.std.proofs.lemmas.List.Elements.{All-nil, All-cons}
+-- Walks over uses, from the matrices and the weight of the first ones.
+use Rattle.std.proofs.Common.{◌≡◌, ℕ, zero, suc, ◌+◌, ◌<◌, ◌≤◌, Bool, true, false, ◌||◌, ◌==◌, not, cond, nat_lt, if◌then◌else◌, List, [], ◌∷◌, ◌++◌, length, get_or, take, drop, Option, Some, None, is_some, Result, Ok, Err, length-append, add-one, sym, ap, ◌∙◌, subst, refl, arith}
+use Rattle.std.specs.List.{AllZip, list_all, list_any, position, position_or_len, slice_get}
+use Rattle.std.proofs.lemmas.Bool.{and_parts, lt-ltb}
+use Rattle.std.proofs.lemmas.Bool.Decides.{Decides-eqb, nat_tests}
+use Rattle.std.proofs.Math.Seq.{take-length}
 use Rattle.std.proofs.lemmas.List.Quantifiers.{position-Some}
 use Rattle.std.proofs.lemmas.Option.{slice_get-get_or, slice_get_read}
 use Rattle.std.proofs.lemmas.Slice.Eq.{bytes_eq-Decides}
 use Rattle.bern_base.specs.declared.matrix.Matrix.{Matrix}
-use Rattle.bern_ports.specs.Files.{Files}
-use Rattle.mm_profile.specs.Profile.{and_then}
+use Rattle.bern_base.specs.declared.refusal.Rule.TheVariants.{F1}
+use Rattle.bern_base.specs.declared.refusal.Refusal.TheVariants.{File}
+use Rattle.bern_ports.specs.Files.{Files, bytes_of}
+use Rattle.mm_profile.specs.Profile.{Fault, mm}
 use Rattle.file_walk.specs.declared.load_error.LoadError.{LoadError}
 use Rattle.file_walk.specs.declared.load_error.LoadError.TheVariants as e
 use Rattle.file_walk.specs.declared.uses.Use.{Use}
-use Rattle.file_walk.specs.Serving.{Beside, IsFit, IsFitFor, IsServed, Serves, beside_first}
-use Rattle.file_walk.specs.Walk.{IsArray, Refused, Stop, Walks, each, has_sizes, is_of, served, serves}
+use Rattle.file_walk.specs.declared.walking.Loaded.{Loaded}
+use Rattle.file_walk.specs.Mentions.{is_of, mentioned}
+use Rattle.file_walk.specs.Serving.{Beside, IsBehind, IsFit, IsFitFor, IsServed, Serves, beside_first, is_known}
+use Rattle.file_walk.specs.Walk.{IsArray, IsOfUse, Refused, Walks, found, has, has_sizes, served, serves, stop_of, stops, weight_behind}
+use Rattle.file_walk.proofs.MentionLemmas.{around, mentioned_again, mentioned_first}
+use Rattle.file_walk.proofs.WeightLemmas.{stops_at, weight_more}
 
 some_same : {X : Type 0} (x y : X) → Some x ≡ Some y → x ≡ y
 some_same x y same = cc
@@ -52,65 +58,104 @@ pub served_again : (files : Files) (all uses : List Use) (ms : List Matrix) (nam
 served_again files all uses ms name m beside there =
     let known = first_is (IsServed files all) uses ms name m (position (is_of name) uses) beside refl there in subst (λ n. served files all n ≡ Ok m) known.1 known.2
 
-abbrev answers : Files → List Use → Use → Result Matrix Stop
-answers files all u = served files all u.file
+-- the answer for a use whose file was mentioned before
+pub serves_again : (files : Files) (uses : List Use) (ms : List Matrix) (now : ℕ) (name : List ℕ) (m : Matrix) → Beside (IsServed files uses) uses ms →
+    beside_first ms (position (is_of name) uses) ≡ Some m → Serves files uses now name (is_known uses ms name) (Ok (record { matrix = m; weight = now }))
+serves_again files uses ms now name m beside there =
+    let known : is_known uses ms name ≡ true = ap is_some there in
+    subst (λ k. Serves files uses now name k (Ok (record { matrix = m; weight = now }))) (sym known) (served_again files uses uses ms name m beside there, refl)
 
--- each use has its matrix
-pub each_done : (files : Files) (all uses : List Use) (ms : List Matrix) → Beside (IsServed files all) uses ms → length ms ≡ length uses → each (answers files all) uses ≡ Ok ms
-each_done files all [] [] beside same = refl
-each_done files all [] (m ∷ ms) beside same = absurd beside
-each_done files all (u ∷ uses) [] beside same = absurd (omega (arith, same))
-each_done files all (u ∷ uses) (m ∷ ms) beside same =
-    ap (λ r. and_then r (λ y. and_then (each (answers files all) uses) (λ ys. Ok (y ∷ ys)))) beside.0
-    ∙ ap (λ r. and_then r (λ ys. Ok (m ∷ ys))) (each_done files all uses ms beside.1 (omega (arith, same)))
+-- the uses up to the next one, and around it
+take_next : (uses : List Use) (n : ℕ) (u : Use) → slice_get uses n ≡ Some u → take (suc n) uses ≡ take n uses ++ u ∷ []
+take_next [] n u at = absurd (none_some u at)
+take_next (v ∷ uses) zero u at = ap (λ w. w ∷ []) (some_same v u at)
+take_next (v ∷ uses) (suc n) u at = ap (λ us. v ∷ us) (take_next uses n u at)
 
--- the next use has none
-each_stops : (files : Files) (all uses : List Use) (ms : List Matrix) (u : Use) (stop : Stop) → Beside (IsServed files all) uses ms → slice_get uses (length ms) ≡ Some u → served files all u.file ≡ Err stop → each (answers files all) uses ≡ Err stop
-each_stops files all [] ms u stop beside at none = absurd (none_some u at)
-each_stops files all (v ∷ uses) [] u stop beside at none =
-    ap (λ r. and_then r (λ y. and_then (each (answers files all) uses) (λ ys. Ok (y ∷ ys)))) (ap (answers files all) (some_same v u at) ∙ none)
-each_stops files all (v ∷ uses) (m ∷ ms) u stop beside at none =
-    ap (λ r. and_then r (λ y. and_then (each (answers files all) uses) (λ ys. Ok (y ∷ ys)))) beside.0
-    ∙ ap (λ r. and_then r (λ ys. Ok (m ∷ ys))) (each_stops files all uses ms u stop beside.1 at none)
+uses_around : (uses : List Use) (n : ℕ) (u : Use) → slice_get uses n ≡ Some u → uses ≡ take n uses ++ u ∷ drop (suc n) uses
+uses_around [] n u at = absurd (none_some u at)
+uses_around (v ∷ uses) zero u at = ap (λ w. w ∷ uses) (some_same v u at)
+uses_around (v ∷ uses) (suc n) u at = ap (λ us. v ∷ us) (uses_around uses n u at)
 
--- the uses around the next one
-record Around (files : Files) (all uses : List Use) (u : Use) : Type 0 where
-  before : List Use
-  behind : List Use
-  are : uses ≡ before ++ u ∷ behind
-  served_before : All (λ v. IsOk (served files all v.file)) before
+-- a first place among later items is one further from the front
+later_first : (m : Matrix) (ms : List Matrix) (i n : ℕ) → is_some (beside_first (m ∷ ms) (cond (nat_lt (1 + i) (suc n)) (Some (1 + i)) None)) ≡ is_some (beside_first ms (cond (nat_lt i n) (Some i) None))
+later_first m ms i n = ap (λ b. is_some (beside_first (m ∷ ms) (cond b (Some (1 + i)) None))) tests ∙ at (nat_lt i n)
+  where
+    tests : nat_lt (1 + i) (suc n) ≡ nat_lt i n
+    tests = grind (arith, nat_tests)
 
-around : (files : Files) (all uses : List Use) (ms : List Matrix) (u : Use) → Beside (IsServed files all) uses ms → slice_get uses (length ms) ≡ Some u → Around files all uses u
-around files all [] ms u beside at = absurd (none_some u at)
-around files all (v ∷ uses) [] u beside at = record {
-  before = [];
-  behind = uses;
-  are = ap (λ w. w ∷ uses) (some_same v u at);
-  served_before = All-nil (λ w. IsOk (served files all w.file));
-}
-around files all (v ∷ uses) (m ∷ ms) u beside at =
-    let rest = around files all uses ms u beside.1 at in
+    next : 1 + i ≡ suc i
+    next = omega arith
+
+    at : (inside : Bool) → is_some (beside_first (m ∷ ms) (cond inside (Some (1 + i)) None)) ≡ is_some (beside_first ms (cond inside (Some i) None))
+    at true = ap (λ k. is_some (slice_get (m ∷ ms) k)) next
+    at false = refl
+
+none_beside : (first : Option ℕ) → is_some (beside_first [] first) ≡ false
+none_beside None = refl
+none_beside (Some i) = refl
+
+one_beside : (m : Matrix) (ms : List Matrix) (here more : Bool) (i n : ℕ) → is_some (beside_first ms (cond (nat_lt i n) (Some i) None)) ≡ more →
+    is_some (beside_first (m ∷ ms) (cond (nat_lt (cond (not here) (1 + i) 0) (suc n)) (Some (cond (not here) (1 + i) 0)) None)) ≡ (here || more)
+one_beside m ms true more i n is = ap (λ b. is_some (beside_first (m ∷ ms) (cond b (Some 0) None))) (lt-ltb 0 (suc n) (omega arith))
+one_beside m ms false more i n is = later_first m ms i n ∙ is
+
+-- a file has a matrix beside its first use where that is one of the uses so far
+known_is : (name : List ℕ) (uses : List Use) (ms : List Matrix) → is_known uses ms name ≡ list_any (is_of name) (take (length ms) uses)
+known_is name [] [] = refl
+known_is name [] (m ∷ ms) = refl
+known_is name (u ∷ uses) [] = none_beside (position (is_of name) (u ∷ uses))
+known_is name (u ∷ uses) (m ∷ ms) =
+    one_beside m ms (is_of name u) (list_any (is_of name) (take (length ms) uses)) (position_or_len (is_of name) uses) (length uses) (known_is name uses ms)
+
+-- one more use has its matrix
+behind_next : (files : Files) (weight : ℕ) (uses : List Use) (ms : List Matrix) (now : ℕ) (u : Use) (l : Loaded) (known : Bool) →
+    IsBehind files weight uses ms now → slice_get uses (length ms) ≡ Some u → list_any (is_of u.file) (take (length ms) uses) ≡ known →
+    Serves files uses now u.file known (Ok l) → weight_behind files uses weight (mentioned (take (length ms) uses ++ u ∷ [])) ≡ Ok l.weight
+behind_next files weight uses ms now u l true behind at is goes =
+    ap (weight_behind files uses weight) (mentioned_again (take (length ms) uses) u is) ∙ behind.weight_is ∙ ap (λ w. Ok w) (sym goes.1)
+behind_next files weight uses ms now u l false behind at is goes =
+    ap (weight_behind files uses weight) (mentioned_first (take (length ms) uses) u is)
+    ∙ weight_more files uses weight now (mentioned (take (length ms) uses)) u.file (Ok l.weight) behind.weight_is goes.1
+
+next_served : (files : Files) (uses : List Use) (now : ℕ) (name : List ℕ) (l : Loaded) (known : Bool) → Serves files uses now name known (Ok l) → served files uses name ≡ Ok l.matrix
+next_served files uses now name l true goes = goes.0
+next_served files uses now name l false goes = goes.0
+
+pub behind_more : (files : Files) (weight : ℕ) (uses : List Use) (ms : List Matrix) (now : ℕ) (u : Use) (l : Loaded) →
+    IsBehind files weight uses ms now → slice_get uses (length ms) ≡ Some u → Serves files uses now u.file (is_known uses ms u.file) (Ok l) → IsBehind files weight uses (ms ++ l.matrix ∷ []) l.weight
+behind_more files weight uses ms now u l behind at goes =
+    let more : take (length (ms ++ l.matrix ∷ [])) uses ≡ take (length ms) uses ++ u ∷ [] =
+    ap (λ n. take n uses) (length-append ms (l.matrix ∷ []) ∙ add-one (length ms)) ∙ take_next uses (length ms) u at in
     record {
-      before = v ∷ rest.before;
-      behind = rest.behind;
-      are = ap (λ us. v ∷ us) rest.are;
-      served_before = All-cons (λ v. IsOk (served files all v.file)) v rest.before (subst IsOk (sym beside.0) refl) rest.served_before;
+      served = beside_more (IsServed files uses) uses ms u l.matrix behind.served at (next_served files uses now u.file l (is_known uses ms u.file) goes);
+      weight_is =
+          ap (λ us. weight_behind files uses weight (mentioned us)) more
+          ∙ behind_next files weight uses ms now u l (is_known uses ms u.file) behind at (sym (known_is u.file uses ms)) goes;
     }
 
 -- the walk stops at the next use
-pub walk_stops : (files : Files) (uses : List Use) (ms : List Matrix) (u : Use) (fault : LoadError) → Beside (IsServed files uses) uses ms → slice_get uses (length ms) ≡ Some u → Serves files uses u.file (Err fault) → Walks files uses (Err fault)
-walk_stops files uses ms u (e.Refused r) beside at stops = each_stops files uses uses ms u (Refused r) beside at stops
-walk_stops files uses ms u (e.ReadFault f) beside at stops =
-    let rest = around files uses uses ms u beside at in
+stops_next : (files : Files) (weight : ℕ) (uses : List Use) (ms : List Matrix) (now : ℕ) (u : Use) (fault : LoadError) (known : Bool) →
+    IsBehind files weight uses ms now → slice_get uses (length ms) ≡ Some u → list_any (is_of u.file) (take (length ms) uses) ≡ known →
+    Serves files uses now u.file known (Err fault) → Walks files weight uses (Err fault)
+stops_next files weight uses ms now u (e.Refused r) true behind at is goes = absurd cc
+stops_next files weight uses ms now u (e.ReadFault file) true behind at is goes = absurd cc
+stops_next files weight uses ms now u e.NoMemory known behind at is goes = tt
+stops_next files weight uses ms now u (e.Refused r) false behind at is goes =
+    let rest = around (take (length ms) uses) (drop (suc (length ms)) uses) uses u (uses_around uses (length ms) u at) is in
+    ap (stops files uses weight) rest.are ∙ stops_at files uses weight now (mentioned (take (length ms) uses)) rest.behind u.file (Refused r) behind.weight_is goes
+stops_next files weight uses ms now u (e.ReadFault file) false behind at is goes =
+    let rest = around (take (length ms) uses) (drop (suc (length ms)) uses) uses u (uses_around uses (length ms) u at) is in
     record {
-      before = rest.before;
-      mention = u;
+      before = mentioned (take (length ms) uses);
       behind = rest.behind;
-      are = rest.are;
-      served_before = rest.served_before;
-      named = stops;
+      are = rest.are ∙ ap (λ n. mentioned (take (length ms) uses) ++ n ∷ rest.behind) (sym goes);
+      fine = ap stop_of behind.weight_is;
     }
-walk_stops files uses ms u e.NoMemory beside at stops = tt
+
+pub walk_stops : (files : Files) (weight : ℕ) (uses : List Use) (ms : List Matrix) (now : ℕ) (u : Use) (fault : LoadError) →
+    IsBehind files weight uses ms now → slice_get uses (length ms) ≡ Some u → Serves files uses now u.file (is_known uses ms u.file) (Err fault) → Walks files weight uses (Err fault)
+walk_stops files weight uses ms now u fault behind at goes =
+    stops_next files weight uses ms now u fault (is_known uses ms u.file) behind at (sym (known_is u.file uses ms)) goes
 
 -- a matrix that serves all uses of a file has the sizes of this one
 own_sizes : (u : Use) (m : Matrix) → serves u.file m u ≡ true → (m.rows ≡ u.rows) × (m.cols ≡ u.cols)
@@ -133,6 +178,43 @@ are_arrays all (u ∷ uses) (m ∷ ms) among beside same =
 -- each use has a matrix of its sizes
 pub all_arrays : (uses : List Use) (ms : List Matrix) → Beside (IsFitFor uses) uses ms → length ms ≡ length uses → AllZip IsArray uses ms
 all_arrays uses ms beside same = are_arrays uses uses ms (λ test passes. passes) beside same
+
+-- a matrix with which a file serves all of its uses is that of each of them
+of_use : (files : Files) (all : List Use) (u : Use) (m : Matrix) → ((test : Use → Bool) → list_all test all ≡ true → test u ≡ true) → served files all u.file ≡ Ok m → IsOfUse files u m
+of_use files all u m among is = there (bytes_of files u.file) refl is
+  where
+    fits : (bytes : List ℕ) (n : Matrix) (passes : Bool) → bytes_of files u.file ≡ Some bytes → mm bytes ≡ Ok n → list_all (serves u.file n) all ≡ passes →
+        (if passes then Ok n else Err (Refused (File u.file 0 F1))) ≡ Ok m → IsOfUse files u m
+    fits bytes n true at reads passes is =
+        let same : n ≡ m = cc in
+        let sizes = own_sizes u n (among (serves u.file n) passes) in
+        record { bytes = bytes; there = at; read = reads ∙ ap (λ k. Ok k) same; rows = subst (λ k. k.rows ≡ u.rows) same sizes.0; cols = subst (λ k. k.cols ≡ u.cols) same sizes.1 }
+    fits bytes n false at reads passes is = absurd cc
+
+    read : (bytes : List ℕ) (result : Result Matrix Fault) → bytes_of files u.file ≡ Some bytes → mm bytes ≡ result → has all u.file result ≡ Ok m → IsOfUse files u m
+    read bytes (Ok n) at reads is = fits bytes n (list_all (serves u.file n) all) at reads refl is
+    read bytes (Err fault) at reads is = absurd cc
+
+    there : (bytes : Option (List ℕ)) → bytes_of files u.file ≡ bytes → found all u.file bytes ≡ Ok m → IsOfUse files u m
+    there None at is = absurd cc
+    there (Some bytes) at is = read bytes (mm bytes) at refl is
+
+are_of_uses : (files : Files) (all uses : List Use) (ms : List Matrix) → ((test : Use → Bool) → list_all test all ≡ true → list_all test uses ≡ true) → Beside (IsServed files all) uses ms → length ms ≡ length uses → AllZip (IsOfUse files) uses ms
+are_of_uses files all [] [] among beside same = tt
+are_of_uses files all [] (m ∷ ms) among beside same = absurd beside
+are_of_uses files all (u ∷ uses) [] among beside same = absurd (omega (arith, same))
+are_of_uses files all (u ∷ uses) (m ∷ ms) among beside same = (
+  of_use files all u m (λ test passes. (and_parts (test u) (list_all test uses) (among test passes)).0) beside.0,
+  are_of_uses files all uses ms (λ test passes. (and_parts (test u) (list_all test uses) (among test passes)).1) beside.1 (omega (arith, same)),
+)
+
+-- the walk has come to the end of its uses
+pub walk_done : (files : Files) (weight : ℕ) (uses : List Use) (ms : List Matrix) (now : ℕ) → IsBehind files weight uses ms now → length ms ≡ length uses → Walks files weight uses (Ok ms)
+walk_done files weight uses ms now behind same =
+    let all : take (length ms) uses ≡ uses = ap (λ n. take n uses) same ∙ take-length uses in (
+      ap stop_of (ap (λ us. weight_behind files uses weight (mentioned us)) (sym all) ∙ behind.weight_is),
+      are_of_uses files uses uses ms (λ test passes. passes) behind.served same,
+    )
 
 -- the use at the number of the matrices so far
 pub next_use : (items uses : List Use) (i n : ℕ) (u : Use) → items ≡ uses → n ≡ i → i < length items → u ≡ get_or items i u → slice_get uses n ≡ Some u

@@ -1,4 +1,5 @@
 pub mod Answers
-pub mod Walk
 pub mod Mentions
+pub mod Walk
+pub mod Laws
 pub mod Serving

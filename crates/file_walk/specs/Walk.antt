@@ -1,25 +1,23 @@
--- What a list of uses of files comes to, file by file in the order of first mention: the matrix of each use, the first refusal, or a file that is not there.
-use Rattle.std.specs.Prelude.{◌≡◌, ℕ, Bool, ◌||◌, ◌&&◌, not, ◌==◌, if◌then◌else◌, List, [], ◌∷◌, ◌++◌, Option, Some, None, Result, Ok, Err, IsOk, ⊤}
-use Rattle.std.specs.List.{All, list_all}
-use Rattle.std.specs.Str.{bytes_eq}
+-- What a walk over uses of files comes to, file by file in the order of first mention: the matrix of each use, the first refusal, or a file that is not there.
+use Rattle.std.specs.Prelude.{◌≡◌, ℕ, ◌+◌, ◌*◌, Bool, ◌||◌, ◌&&◌, not, ◌==◌, nat_lt, if◌then◌else◌, List, [], ◌∷◌, ◌++◌, length, Option, Some, None, Result, Ok, Err, ⊤}
+use Rattle.std.specs.List.{AllZip, count_by, list_all}
 use Rattle.bern_base.specs.Matrix.{IsMatrix}
 use Rattle.bern_base.specs.declared.matrix.Matrix.{Matrix}
-use Rattle.bern_base.specs.declared.refusal.Rule.TheVariants.{F1}
+use Rattle.bern_base.specs.declared.refusal.Rule.TheVariants.{F1, F7}
 use Rattle.bern_base.specs.declared.refusal.Refusal.{Refusal}
 use Rattle.bern_base.specs.declared.refusal.Refusal.TheVariants.{File}
 use Rattle.bern_ports.specs.Files.{Files, bytes_of}
+use Rattle.job_weight.specs.Weight.{most_weight}
 use Rattle.mm_profile.specs.Profile.{Fault, mm, and_then}
 use Rattle.file_walk.specs.declared.load_error.LoadError.{LoadError}
 use Rattle.file_walk.specs.declared.load_error.LoadError.TheVariants as e
 use Rattle.file_walk.specs.declared.uses.Use.{Use}
+use Rattle.file_walk.specs.Mentions.{is_of, mentioned}
 
 -- why a walk stops: a refusal, or a file that is not there
 pub data Stop : Type 0 where
   Refused : (refusal : Refusal) → Stop
   Missing : (name : List ℕ) → Stop
-
-abbrev pub is_of : List ℕ → Use → Bool
-is_of name u = bytes_eq u.file name
 
 abbrev pub has_sizes : Matrix → Use → Bool
 has_sizes m u = m.rows == u.rows && m.cols == u.cols
@@ -46,23 +44,42 @@ found uses name (Some bytes) = has uses name (mm bytes)
 abbrev pub served : Files → List Use → List ℕ → Result Matrix Stop
 served files uses name = found uses name (bytes_of files name)
 
--- the answer for each of these, or the first that is none
-abbrev pub each : {A B E : Type 0} → (A → Result B E) → List A → Result (List B) E
-each answer [] = Ok []
-each answer (x ∷ xs) = and_then (answer x) (λ y. and_then (each answer xs) (λ ys. Ok (y ∷ ys)))
+-- how much a file adds to the weight: the entries of its matrix, once for each of its uses
+abbrev pub added : List Use → List ℕ → Matrix → ℕ
+added uses name m = count_by (is_of name) uses * length m.entries
 
--- the matrix of each use. A file that is mentioned again has served all of its uses, so the first that does not is the first by first mention
-abbrev pub arrays : Files → List Use → Result (List Matrix) Stop
-arrays files uses = each (λ u. served files uses u.file) uses
+-- rule F7: the weight with a file is within the limit
+abbrev pub within_limit : List ℕ → ℕ → Result ℕ Stop
+within_limit name weight = if nat_lt most_weight weight then Err (Refused (File name 0 F7)) else Ok weight
 
--- the walk comes to a file of this name: it is that of a use, and each file that is mentioned before has served its uses
-pub record ComesTo (files : Files) (uses : List Use) (name : List ℕ) : Type 0 where
-  pub before : List Use
-  pub mention : Use
-  pub behind : List Use
-  pub are : uses ≡ before ++ mention ∷ behind
-  pub served_before : All (λ u. IsOk (served files uses u.file)) before
-  pub named : name ≡ mention.file
+-- the weight with one more file, or why the walk stops at it
+abbrev pub weight_with : Files → List Use → ℕ → List ℕ → Result ℕ Stop
+weight_with files uses weight name = and_then (served files uses name) (λ m. within_limit name (weight + added uses name m))
+
+-- the weight behind these files, or the first reason to stop
+abbrev pub weight_behind : Files → List Use → ℕ → List (List ℕ) → Result ℕ Stop
+weight_behind files uses weight [] = Ok weight
+weight_behind files uses weight (name ∷ names) = and_then (weight_with files uses weight name) (λ sum. weight_behind files uses sum names)
+
+-- why a walk stops, where it does
+abbrev pub stop_of : {X : Type 0} → Result X Stop → Option Stop
+stop_of (Ok x) = None
+stop_of (Err stop) = Some stop
+
+-- the walk over these files, from a weight on: the first reason to stop
+abbrev pub stops : Files → List Use → ℕ → List (List ℕ) → Option Stop
+stops files uses weight names = stop_of (weight_behind files uses weight names)
+
+-- the walk over the files of all uses, by first mention, from the weight of the arrays without files on
+abbrev pub stop_of_walk : Files → ℕ → List Use → Option Stop
+stop_of_walk files weight uses = stops files uses weight (mentioned uses)
+
+-- the walk comes to a file of this name: it is that of a use, and no file that is mentioned before stops it
+pub record ComesTo (files : Files) (weight : ℕ) (uses : List Use) (name : List ℕ) : Type 0 where
+  pub before : List (List ℕ)
+  pub behind : List (List ℕ)
+  pub are : mentioned uses ≡ before ++ name ∷ behind
+  pub fine : stops files uses weight before ≡ None
 
 -- a matrix of the sizes of a use
 pub record IsArray (u : Use) (m : Matrix) : Type 0 where
@@ -70,9 +87,17 @@ pub record IsArray (u : Use) (m : Matrix) : Type 0 where
   pub rows : m.rows ≡ u.rows
   pub cols : m.cols ≡ u.cols
 
--- the answer of a walk: its matrices, its refusal, or a fault at a file that it comes to; want of memory is free
-abbrev pub Walks : Files → List Use → Result (List Matrix) LoadError → Type 0
-Walks files uses (Ok ms) = arrays files uses ≡ Ok ms
-Walks files uses (Err (e.Refused refusal)) = arrays files uses ≡ Err (Refused refusal)
-Walks files uses (Err (e.ReadFault file)) = ComesTo files uses file
-Walks files uses (Err e.NoMemory) = ⊤
+-- the matrix of the file of a use, of the use's sizes
+pub record IsOfUse (files : Files) (u : Use) (m : Matrix) : Type 0 where
+  pub bytes : List ℕ
+  pub there : bytes_of files u.file ≡ Some bytes
+  pub read : mm bytes ≡ Ok m
+  pub rows : m.rows ≡ u.rows
+  pub cols : m.cols ≡ u.cols
+
+-- the answer of a walk: where nothing stops it the matrix of each use, else its refusal, or a fault at a file that it comes to; want of memory is free
+abbrev pub Walks : Files → ℕ → List Use → Result (List Matrix) LoadError → Type 0
+Walks files weight uses (Ok ms) = (stop_of_walk files weight uses ≡ None) × AllZip (IsOfUse files) uses ms
+Walks files weight uses (Err (e.Refused refusal)) = stop_of_walk files weight uses ≡ Some (Refused refusal)
+Walks files weight uses (Err (e.ReadFault file)) = ComesTo files weight uses file
+Walks files weight uses (Err e.NoMemory) = ⊤

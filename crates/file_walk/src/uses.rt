@@ -1,6 +1,7 @@
 ghost use Rattle.std.specs.Prelude.{◌≡◌, position};
-ghost use Rattle.std.specs.List.{list_all};
-ghost use Rattle.file_walk.specs.Walk.{has_sizes, is_of, serves};
+ghost use Rattle.std.specs.List.{count_by, list_all};
+ghost use Rattle.file_walk.specs.Mentions.{is_of};
+ghost use Rattle.file_walk.specs.Walk.{has_sizes, serves};
 
 use bern_base::{Items, Matrix, Text};
 
@@ -31,6 +32,19 @@ pub fn first_use(uses: &Items<Use>, file: &[u8]) -> Option<usize>
     uses.as_slice()
         .iter()
         .position(|wanted| is_of(wanted, file))
+}
+
+/// How many uses are of that file.
+pub fn count_uses(uses: &Items<Use>, file: &[u8]) -> usize
+    ensures { result ≡ count_by (is_of file.now) uses.now }
+{
+    let mut count = 0;
+    'uses: for wanted in uses.as_slice() {
+        if is_of(wanted, file) {
+            count += 1;
+        }
+    }
+    count
 }
 
 /// Whether a file's matrix has the sizes of each of the file's uses.

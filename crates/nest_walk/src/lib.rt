@@ -17,5 +17,5 @@ mod walk;
 pub use arrays::ArrayValues;
 pub use arrays_of::are_arrays_of;
 pub use first::{dense_values, zero_values};
-pub use runnable::is_runnable;
+pub use runnable::{is_dense, is_runnable};
 pub use runs::run_nests;

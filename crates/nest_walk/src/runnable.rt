@@ -68,7 +68,8 @@ fn is_element(job: &Checked, spans: &[(i64, i64); 4], reference: &Ref) -> bool
     }
 }
 
-pub(crate) fn is_dense(formats: &[FormatDecl], array: &ArrayDecl) -> bool
+/// Whether all levels of an array's format are dense.
+pub fn is_dense(formats: &[FormatDecl], array: &ArrayDecl) -> bool
     ensures { result ≡ is_dense formats.now array.now }
 {
     match formats.get(array.format as usize) {

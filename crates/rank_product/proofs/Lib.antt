@@ -4,5 +4,6 @@ pub mod PartsLemmas
 pub mod NodesLemmas
 pub mod EndLemmas
 pub mod DenseLemmas
+pub mod NestLemmas
 pub mod ShapeLemmas
 pub mod RunLemmas

@@ -1,6 +1,6 @@
--- A product on ranks is a run of its job, and what the run leaves in T is what the dense loops leave.
-use Rattle.std.proofs.Common.{◌≡◌, ℕ, ◌*◌, ◌^◌, ◌<◌, ◌≤◌, Bool, false, List, [], ◌∷◌, Some, map, length, slice_get, refl, sym, ap, ◌∙◌, subst}
-use Rattle.std.specs.Prelude.{ℤ, pos, slice_index}
+-- A product on ranks is a run of its job, and what the run leaves in T is what the job's nests leave there.
+use Rattle.std.proofs.Common.{◌≡◌, ℕ, ◌*◌, ◌^◌, ◌<◌, ◌≤◌, Bool, List, [], ◌∷◌, Some, map, set, length, slice_get, refl, sym, ap, ◌∙◌, subst}
+use Rattle.std.specs.Prelude.{pos, slice_index}
 use Rattle.std.specs.Int.{div_ceil}
 use Rattle.std.specs.List.{All, range_with_len}
 use Rattle.std.proofs.Math.Nat.{mod-lt, mul-one}
@@ -9,28 +9,25 @@ use Rattle.std.proofs.lemmas.List.FromFn.{length-map-range_with_len}
 use Rattle.std.proofs.lemmas.Nat.{pow_pos}
 use Rattle.std.proofs.lemmas.Option.{slice_get_within}
 use Rattle.bern_base.specs.declared.job.Checked.{Checked}
-use Rattle.bern_base.specs.declared.job.Expr.{out-Expr}
-use Rattle.bern_base.specs.declared.job.Factor.{Factor}
 use Rattle.bern_base.specs.declared.job.Nest.{Nest}
 use Rattle.bern_base.specs.declared.job.PlaceKind.{PlaceKind}
-use Rattle.bern_base.specs.declared.job.Product.{Product, roll-Product}
-use Rattle.bern_base.specs.declared.job.Span.{Span}
 use Rattle.bern_base.specs.declared.matrix.Entry.{Entry}
 use Rattle.bern_base.specs.declared.matrix.Matrix.{Matrix}
 use Rattle.bern_base.specs.Matrix.{IsInside, IsMatrix}
 use Rattle.dense_model.specs.State.{element, matrix_values, values_in, read}
 use Rattle.dense_model.proofs.ProductLemmas.{get_or-matrix_values}
+use Rattle.nest_model.specs.Nests.{end_state}
 use Rattle.placement.specs.Cyclic.{cyclic_triples}
 use Rattle.placement.specs.Placement.{Triple}
-use Rattle.rank_model.specs.Runs.{Run, IsRun}
+use Rattle.rank_model.specs.Runs.{IsRun}
 use Rattle.rank_model.specs.States.{end_value}
-use Rattle.rank_node.specs.Jobs.{IsJobOf, IsProductNest, bounds_of, block_of, is_whole, product_factors}
-use Rattle.rank_node.proofs.ListLemmas.{some_same}
+use Rattle.rank_node.specs.Jobs.{IsJobOf, IsProductNest, block_of, is_whole}
 use Rattle.rank_product.specs.declared.shape.ProductShape.{ProductShape}
-use Rattle.rank_product.specs.Shapes.{IsProduct, IsNestOf, IsTerm, IsWhole, IsOver, is_dense_level, is_sparse}
-use Rattle.rank_product.specs.Runs.{AreOfJob, block_place, dense, entries_of, cols_of, first_state, owned_elements, run_of, values_of}
+use Rattle.rank_product.specs.Shapes.{IsProduct, IsNestOf, IsOver, is_dense_level, is_sparse}
+use Rattle.rank_product.specs.Runs.{AreOfJob, block_place, entries_of, cols_of, first_state, owned_elements, run_of, values_of}
 use Rattle.rank_product.proofs.DenseLemmas.{AreArrays, sums-dense}
-use Rattle.rank_product.proofs.ListLemmas.{all_at, one_of, two_of}
+use Rattle.rank_product.proofs.NestLemmas.{loop_is, nests-dense}
+use Rattle.rank_product.proofs.ListLemmas.{all_at, one_of}
 use Rattle.rank_product.proofs.PartsLemmas.{first_at, owned_elements-one}
 use Rattle.rank_product.proofs.PlaceLemmas.{length-block_place, place_is, some_block}
 use Rattle.rank_product.proofs.ShapeLemmas.{IsMatrixAt, matrix_at, has_array, has_place, vector_whole, whole_within, counts_are, dims_apart}
@@ -94,38 +91,15 @@ run_is job p ranks ms is are some most =
       source_held = λ r. vector_held ms p.size p.source ts r m.source ∙ owned_elements-one ts r;
     }
 
--- both variables go over the whole extent
-box_is : (n : ℕ) (vars : List Span) → length vars ≡ 2 → All (IsWhole n) vars → map bounds_of vars ≡ (pos 0, pos n) ∷ (pos 0, pos n) ∷ []
-box_is n vars two whole =
-    let vs = two_of vars two in
-    let bounds : (k : ℕ) (s : Span) → slice_get vars k ≡ Some s → bounds_of s ≡ (pos 0, pos n) = λ k s at.
-    let is = all_at (IsWhole n) vars k s whole at in
-    ap (λ (lo : ℤ). (lo, s.hi)) is.0 ∙ ap (λ (hi : ℤ). (pos 0, hi)) is.1 in
-    ap (map bounds_of) vs.are
-    ∙ ap (λ (b : ℤ × ℤ). b ∷ bounds_of vs.second ∷ []) (bounds 0 vs.first (ap (λ (xs : List Span). slice_get xs 0) vs.are))
-    ∙ ap (λ (b : ℤ × ℤ). (pos 0, pos n) ∷ b ∷ []) (bounds 1 vs.second (ap (λ (xs : List Span). slice_get xs 1) vs.are))
-
--- a product by its sign and its factors
-product_is : (t : Product) (minus : Bool) (factors : List Factor) → t.minus ≡ minus → t.factors ≡ factors → t ≡ roll-Product (record { minus = minus; factors = factors })
-product_is t minus factors sign same = ap (λ m. roll-Product (record { minus = m; factors = t.factors })) sign ∙ ap (λ fs. roll-Product (record { minus = minus; factors = fs })) same
-
-factors_are : (fs : List Factor) (f g : Factor) → length fs ≡ 2 → slice_get fs 0 ≡ Some f → slice_get fs 1 ≡ Some g → fs ≡ f ∷ g ∷ []
-factors_are fs f g two first second =
-    let vs = two_of fs two in
-    let one : vs.first ≡ f = some_same (ap (λ (xs : List Factor). slice_get xs 0) (sym vs.are) ∙ first) in
-    let other : vs.second ≡ g = some_same (ap (λ (xs : List Factor). slice_get xs 1) (sym vs.are) ∙ second) in
-    vs.are ∙ ap (λ x. x ∷ vs.second ∷ []) one ∙ ap (λ x. f ∷ x ∷ []) other
-
+-- the nest of a product is that of its run
 nest_is : (whole : ℕ → Bool) (p : ProductShape) (ranks : ℕ) (ms : List Matrix) (nest : Nest) → IsNestOf p nest → IsProductNest (run_of whole p ranks ms) nest
 nest_is whole p ranks ms nest is =
-    let run : Run = run_of whole p ranks ms in
-    let sums = one_of (out-Expr nest.body).sums is.one in
-    let term = all_at (IsTerm p) (out-Expr nest.body).sums 0 sums.first is.terms (ap (λ (xs : List Product). slice_get xs 0) sums.is) in record {
-      box = box_is p.size nest.vars is.two is.whole ∙ ap (λ n. (pos 0, pos n) ∷ (pos 0, pos n) ∷ []) (sym (length-block_place p.size ranks));
-      guards = is.guards;
-      target = is.target;
-      grows = is.grows;
-      body = sums.is ∙ ap (λ (t : Product). t ∷ []) (product_is sums.first false (product_factors run) term.plus (factors_are sums.first.factors _ _ term.two term.first term.second));
+    let loop = loop_is p nest is in record {
+      box = loop.box ∙ ap (λ n. (pos 0, pos n) ∷ (pos 0, pos n) ∷ []) (sym (length-block_place p.size ranks));
+      guards = loop.guards;
+      target = loop.target;
+      grows = loop.grows;
+      body = loop.body;
     }
 
 pub job_is : (job : Checked) (p : ProductShape) (ranks : ℕ) (ms : List Matrix) → IsProduct job p → 1 ≤ ranks → IsJobOf (run_of (is_whole job) p ranks ms) job
@@ -160,9 +134,9 @@ target_below ms n k i m below =
     let long : m.of.rows * m.of.cols ≡ n = ap (λ c. m.of.rows * c) m.cols ∙ mul-one m.of.rows ∙ m.rows in
     subst (λ values. slice_index values i < 2 ^ 64) (sym (first_at ms k m.of m.there)) (values_below m.of i (subst (λ s. i < s) (sym long) below))
 
--- what the run leaves in T
+-- the nests of the job leave in T what the run leaves there, and all else as at first
 pub product_end : (job : Checked) (p : ProductShape) (ranks : ℕ) (ms : List Matrix) → IsProduct job p → AreOfJob job ms →
-    map (end_value (run_of (is_whole job) p ranks ms)) (range_with_len 0 p.size) ≡ values_in (dense p (first_state ms)) p.target
+    end_state job (first_state ms) ≡ set (first_state ms) p.target (map (end_value (run_of (is_whole job) p ranks ms)) (range_with_len 0 p.size))
 product_end job p ranks ms is are =
     let m = are_matrices job p ms is are in
     let first = first_state ms in
@@ -179,5 +153,6 @@ product_end job p ranks ms is are =
       stored = stored;
       source = refl;
     } in
-    sums-dense p first a (end_value (run_of (is_whole job) p ranks ms)) arrays (stored_inside job p ms is are) (vector_long ms p.size p.target m.target)
+    nests-dense job p first is
+    ∙ sums-dense p first a (end_value (run_of (is_whole job) p ranks ms)) arrays (stored_inside job p ms is are) (vector_long ms p.size p.target m.target)
     (λ k below. target_below ms p.size p.target k m.target below) (λ k. refl)

@@ -1,31 +1,20 @@
--- A product as a run on ranks, and what its dense loops leave.
+-- A product as a run on ranks, and the state before it.
 use Rattle.std.specs.Prelude.{◌≡◌, ℕ, ◌+◌, ◌*◌, ◌/◌, ◌%◌, Bool, List, [], Option, Some, None, map, slice_get}
 use Rattle.std.specs.Int.{div_ceil}
-use Rattle.std.specs.List.{All, fold, range_with_len}
+use Rattle.std.specs.List.{All, range_with_len}
 use Rattle.bern_base.specs.Matrix.{IsMatrix}
-use Rattle.bern_base.specs.Ring.{ring_add, ring_mul}
 use Rattle.bern_base.specs.declared.axes.Axis.TheVariants.{Row}
 use Rattle.bern_base.specs.declared.job.ArrayDecl.{ArrayDecl}
 use Rattle.bern_base.specs.declared.job.Checked.{Checked}
 use Rattle.bern_base.specs.declared.matrix.Entry.{Entry}
 use Rattle.bern_base.specs.declared.matrix.Matrix.{Matrix}
-use Rattle.dense_model.specs.Dense.{points}
-use Rattle.dense_model.specs.State.{State, read, write, matrix_values}
+use Rattle.dense_model.specs.State.{State, matrix_values}
 use Rattle.placement.specs.Cyclic.{cyclic_triples}
 use Rattle.placement.specs.Part.{part_of}
 use Rattle.placement.specs.Placement.{Triple, owned_of, global_of}
 use Rattle.placement.specs.declared.part.Part.{Part}
 use Rattle.rank_model.specs.Runs.{Run}
 use Rattle.rank_product.specs.declared.shape.ProductShape.{ProductShape}
-
--- one turn of the loops T[v] += S[v,w] * D[w], read in the state reached so far
-abbrev pub at_point : ProductShape → State → ℕ × ℕ → State
-at_point p state point = write state p.target point.0
-    (ring_add (read state p.target point.0) (ring_mul (read state p.stored (point.0 * p.size + point.1)) (read state p.source point.1)))
-
--- the state after the loops, in program order
-abbrev pub dense : ProductShape → State → State
-dense p first = fold (at_point p) first (points p.size)
 
 -- the values that the arrays begin with
 abbrev pub values_of : Matrix → List ℕ

@@ -1,7 +1,7 @@
-ghost use Rattle.std.specs.Prelude.{◌≡◌, ◌<◌, ◌≤◌, length, map, true, IfOk};
+ghost use Rattle.std.specs.Prelude.{◌≡◌, ◌<◌, ◌≤◌, length, map, slice_set, true, IfOk};
 ghost use Rattle.std.specs.List.{All, range_with_len};
 ghost use Rattle.bern_base.specs.Matrix.{IsMatrix};
-ghost use Rattle.dense_model.specs.State.{values_in};
+ghost use Rattle.nest_model.specs.Nests.{end_state};
 ghost use Rattle.rank_scripts.specs.Scripts.{total};
 ghost use Rattle.rank_scripts.specs.Nodes.{fresh};
 ghost use Rattle.rank_model.specs.Runs.{Run, IsRun};
@@ -11,7 +11,7 @@ ghost use Rattle.rank_node.specs.Jobs.{is_whole};
 ghost use Rattle.rank_node.specs.NodeStates.{node_of};
 ghost use Rattle.interleave.specs.Worlds.{IsFit, IsStart, IsRank, AreAtEnd};
 ghost use Rattle.rank_product.specs.Shapes.{IsProduct};
-ghost use Rattle.rank_product.specs.Runs.{AreOfJob, block_place, dense, first_state, run_of};
+ghost use Rattle.rank_product.specs.Runs.{AreOfJob, block_place, first_state, run_of};
 
 use crate::parts::parts_of;
 use crate::shape::ProductShape;
@@ -24,23 +24,23 @@ use std::alloc::Global;
 /// `T[v] += S[v, w] * D[w]` on so many ranks: the values of T in order, and how many events it took.
 ///
 /// There is a matrix for each array of the job, of its rows and columns; one of an array with `zero` has no entries. The
-/// events come in an order that the seed chooses. Neither answer depends on it. Each rank walks all entries once to find
-/// its own.
+/// job leaves these values in T, and all other arrays as their matrices say. The events come in an order that the seed
+/// chooses; neither answer depends on it. Each rank walks all entries once to find its own.
 pub fn product_on_ranks(
     alloc: Global,
     job: &Checked,
     product: ProductShape,
     ranks: u32,
     seed: u64,
-    matrices: Items<Matrix>,
+    matrices: &Items<Matrix>,
 ) -> Result<(Items<Val>, u64), NoMemory>
     requires product { IsProduct job.now product }
-    requires matrices { AreOfJob job.now matrices }
+    requires matrices { AreOfJob job.now matrices.now }
     requires some { 1 ≤ ranks }
     requires most { ranks ≤ 64 }
-    ensures values { IfOk result (λ p. p.0 ≡ values_in (dense product (first_state matrices)) product.target) }
+    ensures state { IfOk result (λ p. end_state job.now (first_state matrices.now) ≡ slice_set (first_state matrices.now) product.target p.0) }
     ensures long { IfOk result (λ p. length p.0 ≡ product.size) }
-    ensures events { IfOk result (λ p. p.1 ≡ total (scripts (run_of (is_whole job.now) product ranks matrices))) }
+    ensures events { IfOk result (λ p. p.1 ≡ total (scripts (run_of (is_whole job.now) product ranks matrices.now))) }
 {
     run_through(alloc, job, product, ranks, seed, matrices)
 }
@@ -52,12 +52,12 @@ fn run_through(
     product: ProductShape,
     ranks: u32,
     seed: u64,
-    matrices: Items<Matrix>,
+    matrices: &Items<Matrix>,
 ) -> Result<(Items<Val>, u64), NoMemory>
     ghost run: { Run }
-    requires run { run ≡ run_of (is_whole job.now) product ranks matrices }
+    requires run { run ≡ run_of (is_whole job.now) product ranks matrices.now }
     requires product { IsProduct job.now product }
-    requires matrices { AreOfJob job.now matrices }
+    requires matrices { AreOfJob job.now matrices.now }
     requires some { 1 ≤ ranks }
     requires most { ranks ≤ 64 }
     ensures values { IfOk result (λ p. p.0 ≡ map (end_value run) (range_with_len 0 product.size)) }
@@ -75,21 +75,21 @@ fn new_nodes(
     alloc: Global,
     job: &Checked,
     product: ProductShape,
-    matrices: Items<Matrix>,
+    matrices: &Items<Matrix>,
     place: &Cyclic,
     ranks: u32,
 ) -> Result<Items<Node>, NoMemory>
     requires product { IsProduct job.now product }
-    requires matrices { AreOfJob job.now matrices }
+    requires matrices { AreOfJob job.now matrices.now }
     requires some { 1 ≤ ranks }
     requires most { ranks ≤ 64 }
     requires place { ⟦<Cyclic as Placement>⟧.triples place.now ≡ block_place product.size ranks }
     requires ranks { ⟦<Cyclic as Placement>⟧.ranks place.now ≡ ranks }
-    ensures { IfOk result (λ nodes. IsStart (run_of (is_whole job.now) product ranks matrices) nodes) }
+    ensures { IfOk result (λ nodes. IsStart (run_of (is_whole job.now) product ranks matrices.now) nodes) }
 {
     let mut nodes = Items::from_vec(Vec::with_capacity(alloc, ranks as usize)?);
     for rank in 0..ranks {
-        let node = new_node(alloc, job, product, &matrices, place, rank, ranks)?;
+        let node = new_node(alloc, job, product, matrices, place, rank, ranks)?;
         nodes.push(node)?;
     }
     Ok(nodes)

@@ -197,20 +197,79 @@ fn matrices(alloc: Global) -> Result<Items<Matrix>, NoMemory> {
 #[test]
 fn the_product_is_the_same_on_any_number_of_ranks(rt: HostRuntime) -> Result<(), Fail> {
     let alloc = rt.alloc();
+    let job = job(alloc, plain())?;
+    let matrices = matrices(alloc)?;
+    assert!(rt; are_of_job(&job, &matrices));
     for (ranks, seed, events) in [(1, 0, 3), (2, 7, 14), (3, 1, 25)] {
-        let job = job(alloc, plain())?;
-        let matrices = matrices(alloc)?;
-        assert!(rt; are_of_job(&job, &matrices));
         match product_shape(&job) {
             Some(product) => {
                 let (values, happened) = product_on_ranks(
-                    alloc, &job, product, ranks, seed, matrices,
+                    alloc, &job, product, ranks, seed, &matrices,
                 )?;
                 assert_eq!(rt;
                     values.as_slice(),
                     [Val::new(5), Val::new(7), Val::new(6)].as_slice()
                 );
                 assert_eq!(rt; happened, events);
+            }
+            None => assert!(rt; false),
+        }
+    }
+    Ok(())
+}
+
+/// An array whose values a file gives.
+fn given(alloc: Global, name: &[u8], dims: u32, format: u32) -> Result<ArrayDecl, NoMemory> {
+    let mut decl = array(alloc, name, dims, format)?;
+    decl.file = Some(Text::from_bytes(alloc, b"values.mtx")?);
+    Ok(decl)
+}
+
+/// D, T and S, and a sparse matrix and a vector that no nest names. T and the last two come from files.
+fn given_arrays(alloc: Global) -> Result<Items<ArrayDecl>, NoMemory> {
+    let d = array(alloc, b"D", 1, 0)?;
+    let t = given(alloc, b"T", 1, 0)?;
+    let s = array(alloc, b"S", 2, 1)?;
+    let e = given(alloc, b"E", 2, 1)?;
+    let f = given(alloc, b"F", 1, 0)?;
+    Ok(Items::from_vec(vec![in alloc; d, t, s, e, f]?))
+}
+
+/// D is (1, 2, 3), T is (10, 20, 2^64 - 1), the rows of S are (0, 4, 0), (0, 0, 0) and (1, 0, 2), and E and F have values
+/// too.
+fn given_matrices(alloc: Global) -> Result<Items<Matrix>, NoMemory> {
+    let d = [entry(0, 0, 1), entry(1, 0, 2), entry(2, 0, 3)];
+    let t = [
+        entry(0, 0, 10),
+        entry(1, 0, 20),
+        entry(2, 0, 18_446_744_073_709_551_615),
+    ];
+    let s = [entry(0, 1, 4), entry(2, 0, 1), entry(2, 2, 2)];
+    let e = [entry(0, 0, 100), entry(1, 2, 100)];
+    let f = [entry(0, 0, 100), entry(1, 0, 100)];
+    let d = matrix(alloc, 1, d.as_slice())?;
+    let t = matrix(alloc, 1, t.as_slice())?;
+    let s = matrix(alloc, 3, s.as_slice())?;
+    let e = matrix(alloc, 3, e.as_slice())?;
+    let f = matrix(alloc, 1, f.as_slice())?;
+    Ok(Items::from_vec(vec![in alloc; d, t, s, e, f]?))
+}
+
+#[test]
+fn values_from_a_file_grow_beside_arrays_that_no_nest_names(rt: HostRuntime) -> Result<(), Fail> {
+    let alloc = rt.alloc();
+    let mut job = job(alloc, plain())?;
+    job.arrays = given_arrays(alloc)?;
+    let matrices = given_matrices(alloc)?;
+    assert!(rt; are_of_job(&job, &matrices));
+    for ranks in [1, 2, 4] {
+        match product_shape(&job) {
+            Some(product) => {
+                let (values, _) = product_on_ranks(alloc, &job, product, ranks, 3, &matrices)?;
+                assert_eq!(rt;
+                    values.as_slice(),
+                    [Val::new(18), Val::new(20), Val::new(6)].as_slice()
+                );
             }
             None => assert!(rt; false),
         }

@@ -8,6 +8,6 @@ pub replayed-requires : goal.replayed-requires
 replayed-requires g c =
     let same = sym c.requires.0 in
     let start : Run → Type 0 = λ run. IsStart run c.in_ok-nodes.nodes in (
-      subst IsRun same (run_is c.args.job.now c.args.product c.args.ranks c.args.matrices c.requires.1.0 c.requires.1.1.0 c.requires.1.1.1.0 c.requires.1.1.1.1),
+      subst IsRun same (run_is c.args.job.now c.args.product c.args.ranks c.args.matrices.now c.requires.1.0 c.requires.1.1.0 c.requires.1.1.1.0 c.requires.1.1.1.1),
       subst start same c.in_ok-nodes.ensures,
     )

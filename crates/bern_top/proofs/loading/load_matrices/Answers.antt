@@ -1,0 +1,32 @@
+use Rattle.std.proofs.Common.{◌≡◌, List, Ok, sym, ap, ◌∙◌, subst}
+use Rattle.std.specs.List.{AllZip}
+use Rattle.bern_base.specs.declared.matrix.Matrix.{Matrix}
+use Rattle.file_walk.specs.Walk.{IsArray, Walks}
+use Rattle.file_walk.proofs.ShelfLemmas.{if_some_weaker}
+use Rattle.rank_product.specs.Runs.{AreOfJob}
+use Rattle.bern_top.specs.Arrays.{spread, uses_of}
+use Rattle.bern_top.specs.Loading.{Loads}
+use Rattle.bern_top.proofs.ArrayLemmas.{spread_all, spread_of_job}
+use Rattle.bern_top.proofs.LoadLemmas.{all_load}
+use Rattle.bern_top.proofs.loading.load_matrices.Goals as goal
+
+pub returns-in-Ok-with_zeros-clause-matrices : goal.returns-in-Ok-with_zeros-clause-matrices
+returns-in-Ok-with_zeros-clause-matrices g c =
+    let job = c.args.job.now in
+    let loaded : List Matrix = c.in-Ok-load_arrays.loaded in
+    let uses : c.in-Ok.uses ≡ uses_of job.arrays = c.in-Ok.ensures ∙ ap uses_of c.as_slice.ensures in
+    let ms : c.in-Ok-with_zeros.matrices ≡ spread job.arrays loaded = c.in-Ok-with_zeros.ensures ∙ ap (λ xs. spread xs loaded) c.as_slice-in-Ok-load_arrays.ensures in
+    subst (AreOfJob job) (sym ms) (spread_of_job job loaded (subst (λ us. AllZip IsArray us loaded) uses c.in-Ok-load_arrays.ensures.matrix))
+
+pub returns-in-Ok-with_zeros-clause-told : goal.returns-in-Ok-with_zeros-clause-told
+returns-in-Ok-with_zeros-clause-told g c =
+    let job = c.args.job.now in
+    let weight = c.in-Some.weight in
+    let loaded : List Matrix = c.in-Ok-load_arrays.loaded in
+    let uses : c.in-Ok.uses ≡ uses_of job.arrays = c.in-Ok.ensures ∙ ap uses_of c.as_slice.ensures in
+    let ms : c.in-Ok-with_zeros.matrices ≡ spread job.arrays loaded = c.in-Ok-with_zeros.ensures ∙ ap (λ xs. spread xs loaded) c.as_slice-in-Ok-load_arrays.ensures in
+    if_some_weaker (g.F.Shelf.files c.args.shelf.now) (λ fs. Walks fs weight c.in-Ok.uses (Ok loaded)) (λ fs. Loads fs c.args.name.now c.args.ranks job (Ok c.in-Ok-with_zeros.matrices))
+    (λ fs walks.
+    let told : Walks fs weight (uses_of job.arrays) (Ok loaded) = subst (λ us. Walks fs weight us (Ok loaded)) uses walks in
+    all_load fs c.args.name.now c.args.ranks weight job loaded c.in-Ok-with_zeros.matrices c.in-Some.ensures.some.0 c.in-Some.ensures.some.1 told (ms ∙ spread_all fs job.arrays loaded told.1))
+    c.in-Ok-load_arrays.ensures.told

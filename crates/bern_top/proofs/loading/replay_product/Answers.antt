@@ -1,0 +1,17 @@
+use Rattle.std.proofs.Common.{Ok, false}
+use Rattle.file_walk.proofs.ShelfLemmas.{if_some_weaker}
+use Rattle.bern_top.specs.Answers.{IsAnswer}
+use Rattle.bern_top.specs.Loading.{ComesWalking, Loads}
+use Rattle.bern_top.specs.Walk.{files_ending, replay_text}
+use Rattle.bern_top.proofs.LoadLemmas.{replay_answer}
+use Rattle.bern_top.proofs.loading.replay_product.Goals as goal
+
+pub returns-in-Ok-replay_text-clause-told : goal.returns-in-Ok-replay_text-clause-told
+returns-in-Ok-replay_text-clause-told g c =
+    let job = c.args.job.now in
+    let name = c.args.name.now in
+    let product = c.args.product in
+    if_some_weaker (g.F.Shelf.files c.args.shelf.now) (λ fs. Loads fs name c.args.ranks job (Ok c.in-Ok.matrices))
+    (λ fs. IsAnswer (files_ending fs name c.args.ranks job (replay_text fs c.args.ranks job product)) (ComesWalking fs c.args.ranks false job) (Ok c.in-Ok-replay_text.text))
+    (λ fs loads. replay_answer fs name c.args.ranks job product c.in-Ok.matrices c.in-Ok-replay_text.text loads c.in-Ok-replay_text.ensures)
+    c.in-Ok.ensures.told

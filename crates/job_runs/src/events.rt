@@ -1,0 +1,47 @@
+ghost use Rattle.std.specs.Prelude.{◌≡◌, ◌++◌, OnOk, OnErr};
+ghost use Rattle.std.specs.Io.{StartsWith};
+ghost use Rattle.job_runs.specs.Texts.{events_text};
+
+use bern_base::{NoMemory, Text};
+use itoa::Buffer;
+
+/// Appends the line with the number of events of a run. After want of memory `out` is as before.
+pub(crate) fn write_events(events: u64, out: &mut Text) -> Result<(), NoMemory>
+    ensures ok { OnOk result (out.new ≡ out.old ++ events_text events) }
+    ensures err { OnErr result (out.new ≡ out.old) }
+{
+    let before = out.len();
+    match append_events(events, out) {
+        Ok(()) => Ok(()),
+        Err(fault) => {
+            out.truncate(before);
+            Err(fault)
+        }
+    }
+}
+
+fn append_events(events: u64, out: &mut Text) -> Result<(), NoMemory>
+    ensures ok { OnOk result (out.new ≡ out.old ++ events_text events) }
+    ensures kept { StartsWith out.new out.old }
+{
+    let mut digits = Buffer::new();
+    out.append(b"events ")?;
+    out.append(digits.format(events).as_bytes())?;
+    out.append(b"\n")?;
+    Ok(())
+}
+
+#[cfg(test)]
+mod tests {
+    use super::write_events;
+    use bern_base::Text;
+    use std::test::Fail;
+
+    #[test]
+    fn a_number_of_events_is_a_line(rt: HostRuntime) -> Result<(), Fail> {
+        let mut text = Text::from_bytes(rt.alloc(), b"Y\n")?;
+        write_events(8260, &mut text)?;
+        assert_eq!(rt; text.as_bytes(), b"Y\nevents 8260\n".as_slice());
+        Ok(())
+    }
+}

@@ -1,0 +1,53 @@
+ghost use Rattle.std.specs.Prelude.{◌≡◌, ◌≤◌, ◌++◌, IfOk};
+ghost use Rattle.nest_model.specs.Nests.{end_state};
+ghost use Rattle.job_front.specs.CanRun.{CanRun};
+ghost use Rattle.rank_scripts.specs.Scripts.{total};
+ghost use Rattle.rank_model.specs.Letters.{scripts};
+ghost use Rattle.rank_node.specs.Jobs.{is_whole};
+ghost use Rattle.rank_product.specs.Runs.{AreOfJob, first_state, run_of};
+ghost use Rattle.rank_product.specs.Shapes.{IsProduct};
+ghost use Rattle.job_runs.specs.Texts.{arrays_text, events_text};
+
+use crate::events::write_events;
+use crate::first::first_arrays;
+use crate::printing::print_arrays;
+use bern_base::{Checked, Items, Matrix, NoMemory, Text};
+use nest_walk::{ArrayValues, run_nests};
+use rank_product::{ProductShape, product_on_ranks};
+use std::alloc::Global;
+
+/// Runs all nests of a job in order, each over all its points, and prints the arrays of its print lines.
+pub fn run_text(alloc: Global, job: &Checked, matrices: Items<Matrix>) -> Result<Text, NoMemory>
+    requires runs { CanRun job.now }
+    requires matrices { AreOfJob job.now matrices }
+    ensures { IfOk result (λ text. text ≡ arrays_text job.now (end_state job.now (first_state matrices))) }
+{
+    let mut arrays = first_arrays(alloc, job, matrices)?.into_vec();
+    run_nests(job, &mut arrays);
+    print_arrays(alloc, job, &arrays)
+}
+
+/// Runs a job of one product on so many ranks, in an order of events that the seed chooses, and prints the arrays of its
+/// print lines and the number of events. The text does not depend on the seed.
+pub fn replay_text(
+    alloc: Global,
+    job: &Checked,
+    product: ProductShape,
+    ranks: u32,
+    seed: u64,
+    matrices: Items<Matrix>,
+) -> Result<Text, NoMemory>
+    requires product { IsProduct job.now product }
+    requires runs { CanRun job.now }
+    requires matrices { AreOfJob job.now matrices }
+    requires some { 1 ≤ ranks }
+    requires most { ranks ≤ 64 }
+    ensures { IfOk result (λ text. text ≡ arrays_text job.now (end_state job.now (first_state matrices)) ++ events_text (total (scripts (run_of (is_whole job.now) product ranks matrices)))) }
+{
+    let (values, events) = product_on_ranks(alloc, job, product, ranks, seed, &matrices)?;
+    let mut arrays = first_arrays(alloc, job, matrices)?;
+    arrays.set(product.target as usize, ArrayValues::Dense(values));
+    let mut text = print_arrays(alloc, job, arrays.as_slice())?;
+    write_events(events, &mut text)?;
+    Ok(text)
+}
