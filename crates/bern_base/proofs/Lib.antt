@@ -1,2 +1,5 @@
 pub mod AffineLemmas
+pub mod ElementLemmas
 pub mod RingLemmas
+pub mod SumLemmas
+pub mod ValuesLemmas

@@ -2,6 +2,7 @@ use crate::affine::Affine;
 use crate::axes::Axis;
 use crate::items::Items;
 use crate::raw::Rel;
+use crate::shape::Shape;
 use crate::text::Text;
 use crate::val::Val;
 
@@ -12,8 +13,10 @@ pub struct Checked {
     pub places: Items<PlaceDecl>,
     pub formats: Items<FormatDecl>,
     pub arrays: Items<ArrayDecl>,
-    /// The loop nests in the order in which they run.
+    /// The loop nests in the order of their lines.
     pub nests: Items<Nest>,
+    /// The turns: the numbers of the nests in the order in which they are done.
+    pub turns: Items<u32>,
     /// The arrays to print.
     pub prints: Items<u32>,
 }
@@ -50,23 +53,6 @@ pub enum PlaceKind {
 pub struct FormatDecl {
     pub name: Text,
     pub shape: Shape,
-}
-
-/// The levels of a format; an axis is that of the outer level, `Row` or `Col`.
-#[derive(Debug, Drop)]
-pub enum Shape {
-    DenseOne,
-    PackedOne,
-    ListOne,
-    DenseDense(Axis),
-    DensePacked(Axis),
-    PackedPacked(Axis),
-    ListTwo,
-    Jagged,
-    /// The offsets (column minus row) of the stored diagonals, rising.
-    Diagonal(Items<i64>),
-    /// Rows in the order that the file of this name lists.
-    Permute(Text),
 }
 
 /// An array. One of a single extent has one column.

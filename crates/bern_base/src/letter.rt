@@ -25,6 +25,7 @@ pub struct Needs {
 pub enum Letter {
     /// Which elements the sender needs from the receiver.
     Request(Needs),
-    /// The values that the receiver asked for, for one nest, in the order of the request.
-    Values { nest: u32, values: Items<Val> },
+    /// The values that the receiver asked for, in one turn, in the order of the request. A turn is one execution of a nest;
+    /// its number is its place in the job's `turns`, from 0.
+    Values { turn: u32, values: Items<Val> },
 }

@@ -1,5 +1,5 @@
 ghost use Rattle.std.specs.Prelude.{◌≡◌, ◌^◌, ◌<◌};
-ghost use Rattle.bern_base.specs.Ring.{ring_add, ring_sub, ring_mul, ring_neg, ring_of, signed_of, IsRing};
+ghost use Rattle.bern_base.specs.Ring.{ring_add, ring_sub, ring_mul, ring_neg, ring_of, signed_of};
 
 use std::marker::Model;
 
@@ -71,8 +71,3 @@ impl Val {
         Val(self.0.wrapping_neg())
     }
 }
-
-/// Values are a commutative ring. The function does nothing: its contract is the law.
-pub fn values_are_a_ring()
-    ensures { IsRing }
-{}

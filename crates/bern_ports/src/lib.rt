@@ -10,8 +10,6 @@ mod mem_sink;
 mod ports;
 mod std_sink;
 mod sure_sink;
-#[cfg(test)]
-mod tests;
 
 pub use dir_shelf::DirShelf;
 pub use mem_shelf::{MemShelf, are_once};

@@ -44,7 +44,8 @@ impl MemShelf {
     ) -> Result<MemShelf, NoMemory>
         requires chunks { 0 < chunk }
         requires once { AreOnce files }
-        ensures { IfOk result (λ s. (s.files ≡ files) × (s.chunk ≡ chunk) × (s.fails ≡ fails) × (s.faults ≡ 0) × (s.calls ≡ replicate (length files) 0) × (s.faults_by_file ≡ replicate (length files) 0) × (s.begun ≡ false)) }
+        ensures { IfOk result (λ s. (s.files ≡ files) × (s.chunk ≡ chunk) × (s.fails ≡ fails) × (s.faults ≡ 0)
+            × (s.calls ≡ replicate (length files) 0) × (s.faults_by_file ≡ replicate (length files) 0) × (s.begun ≡ false)) }
     {
         let count = files.len();
         let calls = Items::from_vec(vec![in alloc; 0; count]?);
@@ -168,10 +169,12 @@ impl Shelf for MemShelf {
         ensures fails { self.new.fails ≡ self.old.fails }
         ensures sure { (length self.new.fails == 0) ≡ (length self.old.fails == 0) }
         ensures begun { OnOk result (IsTrue self.new.begun) }
-        ensures start { OnOk result (StandsAtStart self.old.files name.now (file_at self.new.files self.new.at).0 (Some (drop self.new.offset (file_at self.new.files self.new.at).1))) }
+        ensures start { OnOk result (StandsAtStart self.old.files name.now
+            (file_at self.new.files self.new.at).0 (Some (drop self.new.offset (file_at self.new.files self.new.at).1))) }
         ensures none { OnErr result (self.new.begun ≡ false) }
         ensures cause { HasCause self.old.faults self.new.faults result }
-        ensures blame { BlamesOnly (Some self.old.files) name.now (count_of self.old.files self.old.faults_by_file) (count_of self.new.files self.new.faults_by_file) result }
+        ensures blame { BlamesOnly (Some self.old.files) name.now
+            (count_of self.old.files self.old.faults_by_file) (count_of self.new.files self.new.faults_by_file) result }
         ensures calls { self.new.calls ≡ counted self.old.calls (place_of self.old.files name.now) }
         ensures at { OnOk result (place_of self.old.files name.now ≡ Some self.new.at) }
         ensures exact { is_err result ≡ is_faulty self.old.files self.old.fails self.old.calls name.now }
@@ -204,12 +207,15 @@ impl Shelf for MemShelf {
         ensures begun { IsTrue self.new.begun }
         ensures current { (file_at self.new.files self.new.at).0 ≡ (file_at self.old.files self.old.at).0 }
         ensures bound { ReadsAtMost result buf.new }
-        ensures bytes { ReadConsumes (Some (drop self.old.offset (file_at self.old.files self.old.at).1)) (Some (drop self.new.offset (file_at self.new.files self.new.at).1)) result buf.new }
+        ensures bytes { ReadConsumes (Some (drop self.old.offset (file_at self.old.files self.old.at).1))
+            (Some (drop self.new.offset (file_at self.new.files self.new.at).1)) result buf.new }
         ensures cause { HasCause self.old.faults self.new.faults result }
-        ensures blame { BlamesOnly (Some self.old.files) (file_at self.old.files self.old.at).0 (count_of self.old.files self.old.faults_by_file) (count_of self.new.files self.new.faults_by_file) result }
+        ensures blame { BlamesOnly (Some self.old.files) (file_at self.old.files self.old.at).0
+            (count_of self.old.files self.old.faults_by_file) (count_of self.new.files self.new.faults_by_file) result }
         ensures calls { self.new.calls ≡ counted self.old.calls (Some self.old.at) }
         ensures at { self.new.at ≡ self.old.at }
-        ensures exact { is_err result ≡ is_listed self.old.fails (file_at self.old.files self.old.at).0 (slice_index self.old.calls self.old.at) }
+        ensures exact { is_err result
+            ≡ is_listed self.old.fails (file_at self.old.files self.old.at).0 (slice_index self.old.calls self.old.at) }
         ensures chunk { self.new.chunk ≡ self.old.chunk }
         ensures at_most { IfOk result (λ n. n ≤ self.old.chunk) }
         ensures succeeds { IsTrue (length self.old.fails == 0) → IsOk result }

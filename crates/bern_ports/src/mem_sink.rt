@@ -30,7 +30,8 @@ impl MemSink {
     /// An empty sink with room for `room` bytes.
     pub fn new(alloc: Global, chunk: u32, room: u32, fails: Items<u64>) -> Result<MemSink, NoMemory>
         requires { 0 < chunk }
-        ensures { IfOk result (λ s. (s.bytes.items ≡ []) × (s.chunk ≡ chunk) × (s.room ≡ room) × (s.fails ≡ fails) × (s.writes ≡ 0) × (s.faults ≡ 0)) }
+        ensures { IfOk result (λ s. (s.bytes.items ≡ []) × (s.chunk ≡ chunk) × (s.room ≡ room) × (s.fails ≡ fails)
+            × (s.writes ≡ 0) × (s.faults ≡ 0)) }
     {
         let bytes = Vec::with_capacity(alloc, room as usize)?;
         Ok(MemSink {
@@ -69,10 +70,12 @@ impl Sink for MemSink {
         ensures some { IfOk result (λ n. 0 < n) }
         ensures bytes { WriteAppends (Some self.old.bytes.items) (Some self.new.bytes.items) result piece.now }
         ensures cause { HasCause self.old.faults self.new.faults result }
-        ensures exact { is_err result ≡ (list_any (λ k. k == self.old.writes) self.old.fails || length self.old.bytes.items == self.old.room) }
+        ensures exact { is_err result
+            ≡ (list_any (λ k. k == self.old.writes) self.old.fails || length self.old.bytes.items == self.old.room) }
         ensures writes { self.new.writes ≡ one_more self.old.writes }
         ensures stays { (self.new.chunk ≡ self.old.chunk) × (self.new.room ≡ self.old.room) × (self.new.fails ≡ self.old.fails) }
-        ensures takes { IfOk result (λ n. n ≡ min self.old.chunk (min (self.old.room - length self.old.bytes.items) (length piece.now))) }
+        ensures takes { IfOk result
+            (λ n. n ≡ min self.old.chunk (min (self.old.room - length self.old.bytes.items) (length piece.now))) }
     {
         let to_fail = self.is_to_fail();
         self.writes = self.writes.saturating_add(1);

@@ -35,7 +35,8 @@ pub trait Shelf {
     /// Whether no call on a name that is there fails.
     ghost sure: { Self → Bool };
 
-    /// Begins a file; reading then stands at its first byte. A name that is not there is a fault, and after a fault no file is begun.
+    /// Begins a file; reading then stands at its first byte. A name that is not there is a fault, and after a fault no file
+    /// is begun.
     fn begin(&mut self, name: &Text) -> Result<(), Failed>
         ensures files { files self.new ≡ files self.old }
         ensures sure { sure self.new ≡ sure self.old }
@@ -46,7 +47,8 @@ pub trait Shelf {
         ensures blame { BlamesOnly (files self.old) name.now (faults_on self.old) (faults_on self.new) result }
         ensures succeeds { IsTrue (sure self.old) → IfSome (files self.old) (λ fs. IsSome (bytes_of fs name.now) → IsOk result) };
 
-    /// Reads the next bytes of the begun file into the front of `buf`. It gives none only at the end; after a fault reading stands where it was.
+    /// Reads the next bytes of the begun file into the front of `buf`. It gives none only at the end; after a fault reading
+    /// stands where it was.
     fn read(&mut self, buf: &mut [u8]) -> Result<usize, Failed>
         requires begun { IsTrue (begun self.old) }
         requires room { 0 < length buf.old }
@@ -72,7 +74,8 @@ pub trait Sink {
     /// How many writes have failed.
     ghost faults: { Self → ℕ };
 
-    /// Writes some bytes from the front of `piece`, at least one. After a fault nothing was written; a write that would take nothing is a fault.
+    /// Writes some bytes from the front of `piece`, at least one. After a fault nothing was written; a write that would take
+    /// nothing is a fault.
     fn write(&mut self, piece: &[u8]) -> Result<usize, Failed>
         requires { 0 < length piece.now }
         ensures bound { WritesAtMost result piece.now }

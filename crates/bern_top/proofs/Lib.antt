@@ -1,7 +1,4 @@
 pub mod WritingLemmas
-pub mod CommandLemmas
-pub mod WordLemmas
-pub mod ArrayLemmas
-pub mod LoadLemmas
-pub mod AgreesLemmas
+pub mod RequestLemmas
+pub mod EndingLemmas
 pub mod TopLemmas

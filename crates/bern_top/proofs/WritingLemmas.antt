@@ -5,10 +5,11 @@ use Rattle.std.specs.Io.KnownBytes.{Appends, Keeps}
 use Rattle.std.proofs.KnownBytes.{Appends-trans, Appends-kept}
 use Rattle.bern_ports.specs.Causes.{Rose}
 use Rattle.bern_ports.specs.declared.ports.Failed.{Failed}
-use Rattle.bern_top.specs.Answers.{Port, StopsWithin, Writes}
+use Rattle.bern_ports.specs.Frames.{Port}
+use Rattle.bern_top.specs.Answers.{StopsWithin, Writes}
 
-abbrev pub port : Option (List ℕ) → Option (List ℕ) → ℕ → ℕ → Port
-port old new before now = record { old = old; new = new; before = before; now = now }
+abbrev pub over : Option (List ℕ) → Option (List ℕ) → ℕ → ℕ → Port
+over old new before now = record { old = old; new = new; before = before; now = now }
 
 -- a count that rose later rose from before
 pub rose_again : (a b c : ℕ) → a ≤ b → Rose b c → Rose a c
@@ -18,8 +19,8 @@ rose_later : (a b c : ℕ) → Rose a b → b ≤ c → Rose a c
 rose_later a b c rose up = omega (arith, up, rose)
 
 -- a part was written whole, and then a later one stopped
-pub stops_behind : (a b c : Option (List ℕ)) (k m n : ℕ) (first second : List ℕ) → k ≤ m → Appends a b first → StopsWithin (port b c m n) second → StopsWithin (port a c k n) (first ++ second)
-stops_behind a b c k m n first second up wrote stops = record {
+pub stops_after : (a b c : Option (List ℕ)) (k m n : ℕ) (first second : List ℕ) → k ≤ m → Appends a b first → StopsWithin (over b c m n) second → StopsWithin (over a c k n) (first ++ second)
+stops_after a b c k m n first second up wrote stops = record {
   front = first ++ stops.front;
   rest = stops.rest;
   parts = ap (λ t. first ++ t) stops.parts ∙ sym (append_assoc first stops.front stops.rest);
@@ -28,12 +29,12 @@ stops_behind a b c k m n first second up wrote stops = record {
   rose = rose_again k m n up stops.rose;
 }
 
-pub writes_behind : (a b c : Option (List ℕ)) (k m n : ℕ) (first second : List ℕ) (result : Result (Unit {0}) Failed) → k ≤ m → Appends a b first → Writes (port b c m n) second result → Writes (port a c k n) (first ++ second) result
-writes_behind a b c k m n first second (Ok done) up wrote writes = Appends-trans a b c first second wrote writes
-writes_behind a b c k m n first second (Err failed) up wrote writes = stops_behind a b c k m n first second up wrote writes
+pub writes_after : (a b c : Option (List ℕ)) (k m n : ℕ) (first second : List ℕ) (result : Result (Unit {0}) Failed) → k ≤ m → Appends a b first → Writes (over b c m n) second result → Writes (over a c k n) (first ++ second) result
+writes_after a b c k m n first second (Ok done) up wrote writes = Appends-trans a b c first second wrote writes
+writes_after a b c k m n first second (Err failed) up wrote writes = stops_after a b c k m n first second up wrote writes
 
 -- what stops within a part stops within a longer text that begins with it
-pub stops_before : (a b : Option (List ℕ)) (k m : ℕ) (first second : List ℕ) → StopsWithin (port a b k m) first → StopsWithin (port a b k m) (first ++ second)
+pub stops_before : (a b : Option (List ℕ)) (k m : ℕ) (first second : List ℕ) → StopsWithin (over a b k m) first → StopsWithin (over a b k m) (first ++ second)
 stops_before a b k m first second stops = record {
   front = stops.front;
   rest = stops.rest ++ second;
@@ -61,7 +62,7 @@ writes_more a b c bytes rest piece front most count parts is within wrote writes
     within_most most rest piece count is within = omega (arith, within, ap length is, length-take most rest)
 
 -- a write that fails stops within what is left
-pub stops_here : (a b c : Option (List ℕ)) (k m n : ℕ) (bytes rest front : List ℕ) → k ≤ m → bytes ≡ front ++ rest → rest ≢ [] → Appends a b front → Keeps b c → Rose m n → StopsWithin (port a c k n) bytes
+pub stops_here : (a b c : Option (List ℕ)) (k m n : ℕ) (bytes rest front : List ℕ) → k ≤ m → bytes ≡ front ++ rest → rest ≢ [] → Appends a b front → Keeps b c → Rose m n → StopsWithin (over a c k n) bytes
 stops_here a b c k m n bytes rest front up parts some wrote kept rose = record {
   front = front;
   rest = rest;

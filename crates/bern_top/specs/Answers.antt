@@ -1,43 +1,58 @@
--- What the answers of calls say of the run and of the sinks.
-use Rattle.std.specs.Prelude.{◌≡◌, ◌≢◌, ℕ, ◌⊎◌, List, [], ◌++◌, Option, Ok, Err, ⊤}
+-- What the answers of calls say of the ending of a request and of the sinks.
+use Rattle.std.specs.Prelude.{◌≡◌, ◌≢◌, ℕ, ◌⊎◌, List, [], ◌++◌, Ok, Err, ⊤}
 use Rattle.std.specs.Io.KnownBytes.{Appends}
 use Rattle.std.specs.declared.result.Result.{Result}
+use Rattle.bern_base.specs.declared.job.Checked.{Checked}
+use Rattle.bern_base.specs.declared.refusal.Refusal.TheVariants.{File, Words}
 use Rattle.bern_ports.specs.Causes.{Rose}
+use Rattle.bern_ports.specs.Files.{Files}
+use Rattle.bern_ports.specs.Frames.{Port}
 use Rattle.bern_ports.specs.declared.ports.Failed.{Failed}
-use Rattle.file_walk.specs.declared.load_error.LoadError.{LoadError}
-use Rattle.file_walk.specs.declared.load_error.LoadError.TheVariants as e
-use Rattle.bern_top.specs.Walk.{Ending, Done, Refuses}
+use Rattle.job_files.specs.Answers.{IsRefusalOf}
+use Rattle.job_files.specs.declared.load_error.LoadError.{LoadError}
+use Rattle.job_files.specs.declared.load_error.LoadError.TheVariants as e
+use Rattle.job_rules.specs.declared.job.CheckError.{CheckError}
+use Rattle.job_rules.specs.declared.job.CheckError.TheVariants as c
+use Rattle.bern_top.specs.Endings.{Ending, Done, Refuses, Ends, IsReached, ReachesFile, ReachesInBytes, ReachesInJob, Runs, RunsBytes, RunsJob}
+use Rattle.bern_top.specs.declared.requests.Request.{Request}
+use Rattle.bern_top.specs.declared.requests.WordsError.{WordsError}
+use Rattle.bern_top.specs.declared.requests.WordsError.TheVariants as w
 
--- the run comes to this end and to no other
+-- it ends so and in no other way
 abbrev pub EndsOnly : (Ending → Type 0) → Ending → Type 0
 EndsOnly run ending = run ending × ((other : Ending) → run other → other ≡ ending)
 
--- a text is the run's, a refusal is its first, a fault is at a name that it comes to; want of memory is free
+-- a text is the ending, a refusal is the ending, a fault is at a name that is reached; want of memory is free
 abbrev pub Agrees : (Ending → Type 0) → (List ℕ → Type 0) → Result (List ℕ) LoadError → Type 0
-Agrees run comes (Ok text) = EndsOnly run (Done text)
-Agrees run comes (Err (e.Refused refusal)) = EndsOnly run (Refuses refusal)
-Agrees run comes (Err (e.ReadFault file)) = comes file
-Agrees run comes (Err e.NoMemory) = ⊤
+Agrees run reaches (Ok text) = EndsOnly run (Done text)
+Agrees run reaches (Err (e.Refused refusal)) = EndsOnly run (Refuses refusal)
+Agrees run reaches (Err (e.ReadFault file)) = reaches file
+Agrees run reaches (Err e.NoMemory) = ⊤
 
--- this one and no other
-abbrev pub IsOnly : {X : Type 0} → (X → Type 0) → X → Type 0
-IsOnly {X} P x = P x × ((y : X) → P y → y ≡ x)
+-- the answer for an accepted job, for the bytes of a job file, for a request and for words
+abbrev pub AnswersJob : Files → Request → Checked → Result (List ℕ) LoadError → Type 0
+AnswersJob files r job result = Agrees (RunsJob files r job) (ReachesInJob files r job) result
 
--- the answer for an end that is known: its text, its refusal, or a fault at a name that is come to; want of memory is free
-abbrev pub IsAnswer : Ending → (List ℕ → Type 0) → Result (List ℕ) LoadError → Type 0
-IsAnswer ending comes (Ok text) = ending ≡ Done text
-IsAnswer ending comes (Err (e.Refused refusal)) = ending ≡ Refuses refusal
-IsAnswer ending comes (Err (e.ReadFault file)) = comes file
-IsAnswer ending comes (Err e.NoMemory) = ⊤
+abbrev pub AnswersBytes : Files → Request → List ℕ → Result (List ℕ) LoadError → Type 0
+AnswersBytes files r bytes result = Agrees (RunsBytes files r bytes) (ReachesInBytes files r bytes) result
 
--- a sink over a call: what it held before and after, and its counts of faults
-pub record Port : Type 0 where
-  pub old : Option (List ℕ)
-  pub new : Option (List ℕ)
-  pub before : ℕ
-  pub now : ℕ
+abbrev pub AnswersRequest : Files → Request → Result (List ℕ) LoadError → Type 0
+AnswersRequest files r result = Agrees (Runs files r) (ReachesFile files r) result
 
--- it grew by a part from the front of these bytes, not the whole, and its count rose
+abbrev pub AnswersWords : Files → List (List ℕ) → Result (List ℕ) LoadError → Type 0
+AnswersWords files words result = Agrees (Ends files words) (IsReached files words) result
+
+-- the refusal of a job file; want of memory is free
+abbrev pub IsJobRefusal : List ℕ → CheckError → LoadError → Type 0
+IsJobRefusal name (c.Refused line rule) fault = IsRefusalOf (File name line rule) fault
+IsJobRefusal name c.NoMemory fault = fault ≡ e.NoMemory
+
+-- the refusal of words, or want of memory
+abbrev pub IsWordsRefusal : WordsError → LoadError → Type 0
+IsWordsRefusal (w.Refused rule) fault = fault ≡ e.Refused (Words rule)
+IsWordsRefusal w.NoMemory fault = fault ≡ e.NoMemory
+
+-- a sink grew by a part from the front of these bytes, not the whole, and its count rose
 pub record StopsWithin (port : Port) (bytes : List ℕ) : Type 0 where
   pub front : List ℕ
   pub rest : List ℕ

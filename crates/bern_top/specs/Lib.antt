@@ -1,8 +1,5 @@
 pub mod Answers
-pub mod Arrays
-pub mod Asked
-pub mod Commands
+pub mod Endings
 pub mod Lines
-pub mod Loading
-pub mod Walk
+pub mod Requests
 pub mod Top

@@ -1,17 +1,14 @@
 //! The commands: words, the run over their files, and what is written to the two streams.
 #![tactic(auto)]
 
-mod arrays;
-mod commands;
+mod calls;
 mod lines;
-mod loading;
-mod run;
-mod scan;
-#[cfg(test)]
-mod tests;
+mod numerals;
+mod requests;
+mod texts;
 mod top;
 mod writing;
 
-pub use file_walk::LoadError;
-pub use run::{replay_call, run_call};
-pub use top::bernoulli;
+pub use calls::{replay_call, run_call};
+pub use job_files::LoadError;
+pub use top::{bernoulli, want_of_memory};

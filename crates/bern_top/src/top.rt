@@ -1,19 +1,18 @@
-ghost use Rattle.std.specs.Prelude.{◌≡◌, ◌≤◌, map, string_bytes, IfSome};
-ghost use Rattle.file_walk.specs.Answers.{BlamesOne, HasFaultCause};
-ghost use Rattle.bern_top.specs.Answers.{Agrees, HasLine};
-ghost use Rattle.bern_top.specs.Lines.{refusal_line};
-ghost use Rattle.bern_top.specs.Asked.{asked};
-ghost use Rattle.bern_top.specs.Commands.{IsCommand};
-ghost use Rattle.bern_top.specs.Top.{IsStatus, SaysDone, SaysRefused, SaysWords, SaysReadFault, SaysWriteFault, SaysMemory, SaysDue, SaysRefusal, Says, PrintsText, TellsFault};
-ghost use Rattle.bern_top.specs.Walk.{Runs, Comes};
+ghost use Rattle.std.specs.Prelude.{◌≡◌, Err, map, string_bytes, IfSome};
+ghost use Rattle.bern_ports.specs.Frames.{KeepsShelf, port, shelf_state};
+ghost use Rattle.job_files.specs.Answers.{HasFaultCause};
+ghost use Rattle.bern_top.specs.Answers.{AnswersWords, HasLine, IsWordsRefusal};
+ghost use Rattle.bern_top.specs.Lines.{memory_line};
+ghost use Rattle.bern_top.specs.Requests.{RefusesWords};
+ghost use Rattle.bern_top.specs.Top.{IsStatus, SaysDone, SaysRefused, SaysWords, SaysReadFault, SaysWriteFault, SaysMemory, SaysDue, SaysRefusal, PrintsText, TellsFault};
 
-use crate::commands::{Request, request_of};
+use crate::calls::{replay_call, run_call};
 use crate::lines::{write_read_fault, write_refusal};
-use crate::run::{replay_call, run_call};
+use crate::requests::{WordsError, request_of};
 use crate::writing::write_whole;
 use bern_base::{Refusal, Rule, Steps, Text};
 use bern_ports::{Shelf, Sink};
-use file_walk::LoadError;
+use job_files::LoadError;
 use std::alloc::Global;
 use std::sync::ledger::Ledger;
 
@@ -30,8 +29,9 @@ const OUT_OF_MEMORY: u8 = 5;
 /// Does the command of these words and answers its status.
 ///
 /// 0: done, and the whole text is on `out`. 2: refused. 3: a call of the shelf failed. 4: a write on `out` failed.
-/// 5: want of memory. Where the status is not 0, `err` has one line that says why, or a front of it where a write on `err` failed.
-/// Over a shelf that tells its files the clauses say which text is due, what is refused first, and at which files a fault can be.
+/// 5: want of memory. Where the status is not 0, `err` has one line that says why, or a front of it where a write on `err`
+/// failed. Over a shelf that tells its files the clauses say which text is due, what is refused first, and at which files a
+/// fault can be. The files stay, and no count of faults falls, so that several calls in a row can be reasoned about.
 pub fn bernoulli<F: Shelf, S: Sink, L: Ledger>(
     alloc: Global,
     words: &[String],
@@ -41,93 +41,65 @@ pub fn bernoulli<F: Shelf, S: Sink, L: Ledger>(
     steps: &mut Steps<L>,
 ) -> u8
     ensures status { IsStatus result }
-    ensures done { SaysDone (F.files shelf.old) (map string_bytes words.now)
-        (record { old = S.written out.old; new = S.written out.new; before = S.faults out.old; now = S.faults out.new })
-        (record { old = S.written err.old; new = S.written err.new; before = S.faults err.old; now = S.faults err.new }) result }
-    ensures refused { SaysRefused (F.files shelf.old) (map string_bytes words.now)
-        (record { old = S.written out.old; new = S.written out.new; before = S.faults out.old; now = S.faults out.new })
-        (record { old = S.written err.old; new = S.written err.new; before = S.faults err.old; now = S.faults err.new }) result }
+    ensures keeps { KeepsShelf (shelf_state F.Shelf shelf.old) (shelf_state F.Shelf shelf.new) }
+    ensures done { SaysDone (map string_bytes words.now) (F.files shelf.old)
+        (port S.Sink out.old out.new) (port S.Sink err.old err.new) result }
+    ensures refused { SaysRefused (map string_bytes words.now) (F.files shelf.old)
+        (port S.Sink out.old out.new) (port S.Sink err.old err.new) result }
     ensures words { SaysWords (map string_bytes words.now)
-        (record { old = S.written out.old; new = S.written out.new; before = S.faults out.old; now = S.faults out.new })
-        (record { old = S.written err.old; new = S.written err.new; before = S.faults err.old; now = S.faults err.new }) result }
-    ensures read_fault { SaysReadFault (F.files shelf.old) (map string_bytes words.now) (record { total = F.faults shelf.old; by_name = F.faults_on shelf.old; sure = F.sure shelf.old }) (record { total = F.faults shelf.new; by_name = F.faults_on shelf.new; sure = F.sure shelf.new })
-        (record { old = S.written out.old; new = S.written out.new; before = S.faults out.old; now = S.faults out.new })
-        (record { old = S.written err.old; new = S.written err.new; before = S.faults err.old; now = S.faults err.new }) result }
-    ensures write_fault { SaysWriteFault (F.files shelf.old) (map string_bytes words.now)
-        (record { old = S.written out.old; new = S.written out.new; before = S.faults out.old; now = S.faults out.new })
-        (record { old = S.written err.old; new = S.written err.new; before = S.faults err.old; now = S.faults err.new }) result }
+        (port S.Sink out.old out.new) (port S.Sink err.old err.new) result }
+    ensures read_fault { SaysReadFault (map string_bytes words.now) (shelf_state F.Shelf shelf.old) (shelf_state F.Shelf shelf.new)
+        (port S.Sink out.old out.new) (port S.Sink err.old err.new) result }
+    ensures write_fault { SaysWriteFault (map string_bytes words.now) (F.files shelf.old)
+        (port S.Sink out.old out.new) (port S.Sink err.old err.new) result }
     ensures memory { SaysMemory
-        (record { old = S.written out.old; new = S.written out.new; before = S.faults out.old; now = S.faults out.new })
-        (record { old = S.written err.old; new = S.written err.new; before = S.faults err.old; now = S.faults err.new }) result }
-    ensures due { SaysDue (F.files shelf.old) (map string_bytes words.now) (record { total = F.faults shelf.old; by_name = F.faults_on shelf.old; sure = F.sure shelf.old }) (record { total = F.faults shelf.new; by_name = F.faults_on shelf.new; sure = F.sure shelf.new })
-        (record { old = S.written out.old; new = S.written out.new; before = S.faults out.old; now = S.faults out.new }) result }
-    ensures refusal { SaysRefusal (F.files shelf.old) (map string_bytes words.now) (record { total = F.faults shelf.old; by_name = F.faults_on shelf.old; sure = F.sure shelf.old }) (record { total = F.faults shelf.new; by_name = F.faults_on shelf.new; sure = F.sure shelf.new })
-        (record { old = S.written err.old; new = S.written err.new; before = S.faults err.old; now = S.faults err.new }) result }
+        (port S.Sink out.old out.new) (port S.Sink err.old err.new) result }
+    ensures due { SaysDue (map string_bytes words.now) (shelf_state F.Shelf shelf.old) (shelf_state F.Shelf shelf.new)
+        (port S.Sink out.old out.new) result }
+    ensures refusal { SaysRefusal (map string_bytes words.now) (shelf_state F.Shelf shelf.old) (shelf_state F.Shelf shelf.new)
+        (port S.Sink err.old err.new) result }
 {
-    match request_of(words) {
-        Err(rule) => refuse_words(rule, err),
-        Ok(request) => run(alloc, words, request, shelf, out, err, steps),
+    match text_of_words(alloc, words, shelf, steps) {
+        Ok(text) => print(&text, out, err),
+        Err(fault) => tell(&fault, err),
     }
 }
 
-/// Refuses the words. It takes no memory.
-fn refuse_words<S: Sink>(rule: Rule, err: &mut S) -> u8
-    ensures status { result ≡ 2 }
-    ensures line { HasLine (record { old = S.written err.old; new = S.written err.new; before = S.faults err.old; now = S.faults err.new }) (refusal_line (Refusal.Words rule)) }
-{
-    match write_refusal(&Refusal::Words { rule }, err) {
-        Ok(()) => REFUSED,
-        Err(_) => REFUSED,
-    }
-}
-
-/// Does what is asked for; the words are of no use but to the contract.
-fn run<F: Shelf, S: Sink, L: Ledger>(
+/// The text that is due for these words. Words that break a rule read nothing and take no memory.
+fn text_of_words<F: Shelf, L: Ledger>(
     alloc: Global,
     words: &[String],
-    request: Request<'_>,
-    shelf: &mut F,
-    out: &mut S,
-    err: &mut S,
-    steps: &mut Steps<L>,
-) -> u8
-    requires { IsCommand (map string_bytes words.now) (asked request) }
-    ensures { Says (F.files shelf.old) (map string_bytes words.now) (record { total = F.faults shelf.old; by_name = F.faults_on shelf.old; sure = F.sure shelf.old }) (record { total = F.faults shelf.new; by_name = F.faults_on shelf.new; sure = F.sure shelf.new })
-        (record { old = S.written out.old; new = S.written out.new; before = S.faults out.old; now = S.faults out.new })
-        (record { old = S.written err.old; new = S.written err.new; before = S.faults err.old; now = S.faults err.new }) result }
-{
-    match loaded(alloc, request, shelf, steps) {
-        Ok(text) => print(&text, out, err),
-        Err(fault) => answer(&fault, err),
-    }
-}
-
-fn loaded<F: Shelf, L: Ledger>(
-    alloc: Global,
-    request: Request<'_>,
     shelf: &mut F,
     steps: &mut Steps<L>,
 ) -> Result<Text, LoadError>
-    requires some { 1 ≤ request.ranks }
-    requires most { request.ranks ≤ 64 }
-    ensures cause { HasFaultCause (F.faults shelf.old) (F.faults shelf.new) result }
-    ensures blame { IfSome (F.files shelf.old) (BlamesOne (F.sure shelf.old) (F.faults_on shelf.old) (F.faults_on shelf.new) result) }
-    ensures told { IfSome (F.files shelf.old) (λ fs. Agrees (Runs fs (asked request.entry)) (Comes fs (asked request.entry)) result) }
+    ensures keeps { KeepsShelf (shelf_state F.Shelf shelf.old) (shelf_state F.Shelf shelf.new) }
+    ensures cause { HasFaultCause (shelf_state F.Shelf shelf.old) (shelf_state F.Shelf shelf.new) result }
+    ensures words { (rule : Rule) → RefusesWords (map string_bytes words.now) rule →
+        result ≡ Err (LoadError.Refused (Refusal.Words rule)) }
+    ensures told { IfSome (F.files shelf.old) (λ fs. AnswersWords fs (map string_bytes words.now) result) }
 {
-    let Ok(job) = Text::from_bytes(alloc, request.job) else {
-        return Err(LoadError::NoMemory);
-    };
-    match request.seed {
-        None => run_call(alloc, &job, request.ranks, false, shelf, steps),
-        Some(seed) => replay_call(alloc, &job, request.ranks, seed, shelf, steps),
+    match request_of(alloc, words) {
+        Ok(request) => match request.seed {
+            None => run_call(alloc, &request.job, request.ranks, false, shelf, steps),
+            Some(seed) => replay_call(alloc, &request.job, request.ranks, seed, shelf, steps),
+        },
+        Err(refused) => Err(no_request(refused)),
+    }
+}
+
+/// Why words give no request.
+fn no_request(refused: WordsError) -> LoadError
+    ensures { IsWordsRefusal refused result }
+{
+    match refused {
+        WordsError::Refused(rule) => LoadError::Refused(Refusal::Words { rule }),
+        WordsError::NoMemory => LoadError::NoMemory,
     }
 }
 
 /// Writes the text, and answers the status.
 fn print<S: Sink>(text: &Text, out: &mut S, err: &mut S) -> u8
-    ensures { PrintsText
-        (record { old = S.written out.old; new = S.written out.new; before = S.faults out.old; now = S.faults out.new })
-        (record { old = S.written err.old; new = S.written err.new; before = S.faults err.old; now = S.faults err.new }) text.now result }
+    ensures { PrintsText (port S.Sink out.old out.new) (port S.Sink err.old err.new) text.now result }
 {
     match write_whole(text.as_bytes(), out) {
         Ok(()) => DONE,
@@ -139,8 +111,8 @@ fn print<S: Sink>(text: &Text, out: &mut S, err: &mut S) -> u8
 }
 
 /// Writes the line of an answer that is no text, and gives its status. It takes no memory.
-fn answer<S: Sink>(fault: &LoadError, err: &mut S) -> u8
-    ensures { TellsFault (record { old = S.written err.old; new = S.written err.new; before = S.faults err.old; now = S.faults err.new }) fault.now result }
+fn tell<S: Sink>(fault: &LoadError, err: &mut S) -> u8
+    ensures { TellsFault (port S.Sink err.old err.new) fault.now result }
 {
     match fault {
         LoadError::Refused(refusal) => {
@@ -151,9 +123,15 @@ fn answer<S: Sink>(fault: &LoadError, err: &mut S) -> u8
             let _ = write_read_fault(file.as_bytes(), err);
             READ_FAULT
         }
-        LoadError::NoMemory => {
-            let _ = write_whole(b"out of memory\n", err);
-            OUT_OF_MEMORY
-        }
+        LoadError::NoMemory => want_of_memory(err),
     }
+}
+
+/// Says on `err` that memory was short, and answers the status for it, 5. It takes no memory.
+pub fn want_of_memory<S: Sink>(err: &mut S) -> u8
+    ensures status { result ≡ 5 }
+    ensures line { HasLine (port S.Sink err.old err.new) memory_line }
+{
+    let _ = write_whole(b"out of memory\n", err);
+    OUT_OF_MEMORY
 }

@@ -4,7 +4,7 @@ use Rattle.std.specs.List.{flat_map, range_with_len}
 use Rattle.std.specs.Option.{option_map}
 use Rattle.std.proofs.Math.Nat.{zero-add}
 use Rattle.std.proofs.lemmas.Bool.{cases_eq, cond-true, and_parts, ltb-true}
-use Rattle.std.proofs.lemmas.Option.{slice_get-map}
+use Rattle.std.proofs.lemmas.Option.{slice_get-map, get_or_from_slice_get, slice_get_within}
 use Rattle.std.proofs.lemmas.List.{nil_from_length}
 use Rattle.std.proofs.lemmas.List.Concat.{flat_map-append}
 use Rattle.std.proofs.lemmas.List.Elements.{filter-append, filter_passes}
@@ -18,18 +18,15 @@ use Rattle.rank_scripts.specs.Scripts.{book, letters, total}
 use Rattle.rank_scripts.specs.Worlds.{Works, Posts, Takes, has_some, can, done, start, left, Fit}
 use Rattle.rank_scripts.specs.Worlds as worlds
 use Rattle.rank_scripts.proofs.RankLemmas.{all_below_at}
-use Rattle.rank_scripts.proofs.RoundLemmas.{IsClosed-nests, total-nests}
+use Rattle.rank_scripts.proofs.RoundLemmas.{IsClosed-turns, total-turns}
 use Rattle.rank_scripts.proofs.CountLemmas.{start_count}
 use Rattle.rank_scripts.proofs.ProgressLemmas.{goes_on, done_none}
-use Rattle.rank_model.specs.Runs.{Run, IsRun, part_values}
-use Rattle.rank_model.specs.States.{end_state}
-use Rattle.rank_model.specs.Letters.{request, values_letter, scripts}
+use Rattle.rank_model.specs.Products.{IsRun, Run, end_state, part_values, scripts, schedule}
+use Rattle.rank_model.specs.Schedules.{request, values_letter}
 use Rattle.rank_node.specs.declared.node.Node.{Node}
 use Rattle.rank_node.specs.NodeStates.{node_of}
 use Rattle.rank_node.proofs.NodeLemmas.{book_small}
 use Rattle.rank_node.proofs.WorkLemmas.{held_at_end}
-use Rattle.rank_node.proofs.ListLemmas.{get_or-read_at}
-use Rattle.interleave.proofs.WorldLemmas.{within}
 use Rattle.interleave.specs.declared.event.Event.{Event}
 use Rattle.interleave.specs.Worlds.{event_of, events_of, all_events, enabled_events, node_or, node_in, world_in, IsAmong, IsFit, AreAtEnd}
 
@@ -81,7 +78,7 @@ none_map p f a (suc n) k none low high passes =
       | inr other ↦ none_map p f (a + 1) n k (none_later p (f a) (map f (range_with_len (a + 1) n)) none) (omega arith) (omega arith) passes
     ]
 
--- the takes of a rank, and what stands behind its work
+-- the takes of a rank, and what stands after its work
 abbrev takes_of : ℕ → ℕ → List worlds.Event
 takes_of ranks r = map (Takes r) (range_with_len 0 ranks)
 
@@ -117,8 +114,8 @@ pub chosen_enabled : (run : Run) (w : worlds.World Letter) (events : List Event)
 chosen_enabled run w events event are among =
     let p = can (scripts run) w in
     let at : slice_get (enabled_events run w) among.place ≡ Some (event_of event) = ap (λ xs. slice_get xs among.place) (sym are) ∙ slice_get-map event_of events among.place ∙ ap (option_map event_of) among.at in
-    let below = within (enabled_events run w) among.place (event_of event) at in
-    let read = get_or-read_at (enabled_events run w) among.place (event_of event) (event_of event) at in
+    let below = slice_get_within (enabled_events run w) among.place (event_of event) at in
+    let read = get_or_from_slice_get (enabled_events run w) among.place (event_of event) (event_of event) at in
     ap p (sym read) ∙ filter_passes p (all_events run.ranks) among.place (event_of event) below
 
 -- the number of events is small
@@ -135,7 +132,7 @@ total_small run is =
     let row : (p : ℕ) → p < run.ranks → sum_below run.ranks (λ q. length (book (scripts run) p q)) ≤ 128 =
     λ p h. let s = sum_most run.ranks 2 (λ q. length (book (scripts run) p q)) (λ q k. (book_small run p q is k).0) in omega arith in
     let all : letters (scripts run) ≤ run.ranks * 128 = sum_most run.ranks 128 (λ p. sum_below run.ranks (λ q. length (book (scripts run) p q))) row in
-    let whole = total-nests run.ranks 1 (request run) (values_letter run) in
+    let whole = total-turns run.ranks 1 (request (schedule run)) (values_letter (schedule run)) in
     omega arith
 
 -- a new world has all events before it, a done one none
@@ -143,14 +140,14 @@ pub start_left : (run : Run) (w : worlds.World Letter) → w ≡ start (scripts 
 start_left run w is = ap (left (scripts run)) is ∙ start_count (scripts run)
 
 pub done_left : (run : Run) (w : worlds.World Letter) → Fit (scripts run) w → done (scripts run) w ≡ true → left (scripts run) w ≡ 0
-done_left run w fit over = done_none (scripts run) w (IsClosed-nests run.ranks 1 (request run) (values_letter run)) fit over
+done_left run w fit over = done_none (scripts run) w (IsClosed-turns run.ranks 1 (request (schedule run)) (values_letter (schedule run))) fit over
 
 -- what the nodes of a done world hold
 pub all_at_end : (run : Run) (nodes : List Node) (boxes : List (List (List Letter))) → IsFit run nodes boxes → done (scripts run) (world_in run nodes boxes) ≡ true → AreAtEnd run nodes
 all_at_end run nodes boxes is over =
     let ended : (r : ℕ) (n : Node) → slice_get nodes r ≡ Some n → at_end (node_of run n).todo ≡ true =
     λ r n at.
-    let below : r < run.ranks = rw (← is.count) (within nodes r n at) in
+    let below : r < run.ranks = rw (← is.count) (slice_get_within nodes r n at) in
     ap (λ (m : scripted.Node Letter). at_end m.todo) (sym (ap (node_or run r) at)) ∙ all_below_at run.ranks (λ k. at_end (node_in run nodes k).todo) over r below in
     record {
       done = ended;

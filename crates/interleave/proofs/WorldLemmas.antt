@@ -1,15 +1,16 @@
 -- Nodes and boxes of a world, one of them changed.
 use Rattle.std.specs.List.{All}
 use Rattle.std.proofs.Common.{◌≡◌, ℕ, zero, suc, ◌<◌, ◌==◌, true, List, [], ◌∷◌, ◌++◌, Option, Some, None, Result, Ok, Err, OnOk, OnErr, Bool, false, ◌≤◌, ◌&&◌, nat_lt, replicate, length, take, drop, get_or, set, slice_get, subst, sym, ap, ◌∙◌, refl, inl, inr, arith}
+use Rattle.std.proofs.lemmas.Option.{slice_get_read, slice_get_within}
 use Rattle.std.proofs.Math.Path.{fun_ext}
 use Rattle.std.proofs.lemmas.Bool.{cases_eq, cases_lt, cond-true, cond-false, eq-eqb, ne_eqb, lt-ltb, le-ltb, and_parts, ltb-true}
 use Rattle.std.proofs.lemmas.List.{length-set, get_or-set_same, get_or-set_other, length-replicate, get_or-replicate, get_or_past, same_from_push, set-get_or}
 use Rattle.std.proofs.lemmas.List.Elements.{All-replicate, All-set}
 use Rattle.bern_base.specs.declared.letter.Letter.{Letter}
 use Rattle.rank_scripts.specs.Ranks.{put}
-use Rattle.rank_model.specs.Runs.{Run, IsRun}
+use Rattle.rank_model.specs.Products.{IsRun, Run, scripts}
 use Rattle.rank_node.specs.declared.node.Node.{Node}
-use Rattle.rank_node.specs.NodeStates.{node_of, IsNode}
+use Rattle.rank_node.specs.NodeStates.{node_of, HasPosted, HasTaken, HasWorked}
 use Rattle.rank_scripts.specs.Acts.{Act, Work, Post, Wait, at_work, at_post, at_end, receiver}
 use Rattle.rank_scripts.specs.Nodes.{fresh, worked, posted, took}
 use Rattle.rank_scripts.specs.Nodes as scripted
@@ -19,12 +20,11 @@ use Rattle.rank_scripts.proofs.WorldLemmas.{happens_fit, start_fit, takes_next}
 use Rattle.rank_scripts.specs.Scripts.{IsNextOf, book}
 use Rattle.rank_scripts.proofs.RankLemmas.{put_same}
 use Rattle.rank_node.proofs.WorkLemmas.{receiver_below}
-use Rattle.rank_model.specs.Letters.{scripts}
 use Rattle.rank_node.specs.declared.stage.Want.TheVariants as want
 use Rattle.rank_node.specs.Positions.{want_of}
 use Rattle.rank_node.proofs.ListLemmas.{some_same}
 use Rattle.interleave.specs.declared.world.World.{World}
-use Rattle.interleave.specs.Worlds.{node_or, node_in, flight_in, world_in, is_work, is_post, is_end, IsRank, IsFit, IsStart, IsPosted}
+use Rattle.interleave.specs.Worlds.{node_or, node_in, flight_in, world_in, is_work, is_post, is_end, Happened, IsRank, IsFit, IsStart, IsPosted}
 
 pub slice_get-set_same : {A : Type 0} (xs : List A) (i : ℕ) (x : A) → i < length xs → slice_get (set xs i x) i ≡ Some x
 slice_get-set_same [] i x h = absurd (omega arith)
@@ -155,16 +155,11 @@ past_end [] i none = omega arith
 past_end (x ∷ xs) zero none = absurd (cc)
 past_end (x ∷ xs) (suc i) none = let rest = past_end xs i none in omega arith
 
-pub within : {A : Type 0} (xs : List A) (i : ℕ) (x : A) → slice_get xs i ≡ Some x → i < length xs
-within [] i x some = absurd (cc)
-within (y ∷ xs) zero x some = omega arith
-within (y ∷ xs) (suc i) x some = let rest = within xs i x some in omega arith
-
 -- a test of a rank, by its node
 pub test_there : (run : Run) (nodes : List Node) (r : ℕ) (n : Node) (test : List (Act Letter) → Bool) → length nodes ≡ run.ranks → slice_get nodes r ≡ Some n →
     test (node_of run n).todo ≡ (nat_lt r run.ranks && test (node_in run nodes r).todo)
 test_there run nodes r n test count at =
-    let below : r < run.ranks = rw (← count) (within nodes r n at) in
+    let below : r < run.ranks = rw (← count) (slice_get_within nodes r n at) in
     let same : (node_in run nodes r).todo ≡ (node_of run n).todo = ap (λ (m : scripted.Node Letter). m.todo) (ap (node_or run r) at) in
     rw (lt-ltb r run.ranks below, same) refl
 
@@ -209,41 +204,38 @@ new_fit run nodes count boxes run_is is are counted =
       fit = subst (Fit (scripts run)) (sym (new_same run nodes count boxes is are)) (start_fit (scripts run));
     }
 
-pub read_some : {A : Type 0} (xs : List A) (i : ℕ) (x : A) → i < length xs → x ≡ get_or xs i x → slice_get xs i ≡ Some x
-read_some [] i x below is = absurd (omega arith)
-read_some (y ∷ xs) zero x below is = ap Some (sym is)
-read_some (y ∷ xs) (suc i) x below is = read_some xs i x (omega arith) is
+-- what clauses of one call say together
+pub ok_then : {T E : Type 0} (result : Result T E) (A B : Type 0) → OnOk result A → (A → B) → OnOk result B
+ok_then (Ok x) A B a f = f a
+ok_then (Err e) A B a f = tt
 
--- what three clauses of one call say together
-pub ok_three : {T E : Type 0} (result : Result T E) (A B C D : Type 0) → OnOk result A → OnOk result B → OnOk result C → (A → B → C → D) → OnOk result D
-ok_three (Ok x) A B C D a b c f = f a b c
-ok_three (Err e) A B C D a b c f = tt
-
--- an event that happened
-pub record Happened (run : Run) (nodes : List Node) (boxes : List (List (List Letter))) (event : worlds.Event) (new_nodes : List Node) (new_boxes : List (List (List Letter))) : Type 0 where
-  pub fit : IsFit run new_nodes new_boxes
-  pub same : world_in run new_nodes new_boxes ≡ happens (scripts run) (world_in run nodes boxes) event
+pub ok_two : {T E : Type 0} (result : Result T E) (A B C : Type 0) → OnOk result A → OnOk result B → (A → B → C) → OnOk result C
+ok_two (Ok x) A B C a b f = f a b
+ok_two (Err e) A B C a b f = tt
 
 pub works_done : (run : Run) (nodes new_nodes : List Node) (boxes : List (List (List Letter))) (r : ℕ) (n new : Node) → IsFit run nodes boxes → can (scripts run) (world_in run nodes boxes) (Works r) ≡ true →
-    slice_get nodes r ≡ Some n → new_nodes ≡ set nodes r new → IsNode run new → new.rank ≡ n.rank → node_of run new ≡ worked (scripts run) n.rank (node_of run n) →
+    slice_get nodes r ≡ Some n → new_nodes ≡ set nodes r new → HasWorked run n new →
     Happened run nodes boxes (Works r) new_nodes boxes
-works_done run nodes new_nodes boxes r n new is enabled at nodes_are node rank moved =
-    let below = within nodes r n at in
+works_done run nodes new_nodes boxes r n new is enabled at nodes_are has =
+    let below = slice_get_within nodes r n at in
     let old = is.nodes_are r n at in
-    let same = works_same run nodes boxes r n new below at (moved ∙ ap (λ k. worked (scripts run) k (node_of run n)) old.rank) in
+    let same = works_same run nodes boxes r n new below at (has.moved ∙ ap (λ k. worked (scripts run) k (node_of run n)) old.rank) in
     let P : List Node → Type 0 = λ ns. Happened run nodes boxes (Works r) ns boxes in
     subst P (sym nodes_are)
-    (record { fit = stays_fit run nodes boxes boxes r new (Works r) is below (record { rank = rank ∙ old.rank; node = node }) is.rows is.row enabled same; same = same })
+    (record { fit = stays_fit run nodes boxes boxes r new (Works r) is below (record { rank = has.rank ∙ old.rank; node = has.node }) is.rows is.row enabled same; same = same })
 
 row_kept : (run : Run) (boxes : List (List (List Letter))) (p q : ℕ) (letters : List Letter) → All (λ row. length row ≡ run.ranks) boxes → p < length boxes →
     All (λ row. length row ≡ run.ranks) (set boxes p (set (get_or boxes p []) q letters))
 row_kept run boxes p q letters row below = All-set (λ row. length row ≡ run.ranks) boxes p (set (get_or boxes p []) q letters) (length-set (get_or boxes p []) q letters ∙ row p [] below) row
 
 pub posts_done : (run : Run) (nodes new_nodes : List Node) (boxes new_boxes : List (List (List Letter))) (r : ℕ) (n new : Node) → IsFit run nodes boxes → can (scripts run) (world_in run nodes boxes) (Posts r) ≡ true →
-    slice_get nodes r ≡ Some n → new_nodes ≡ set nodes r new → IsRank run r new → node_of run new ≡ posted (scripts run) r (node_of run n) → IsPosted run r n boxes new_boxes →
+    slice_get nodes r ≡ Some n → new_nodes ≡ set nodes r new → HasPosted run n new → IsPosted run r n boxes new_boxes →
     Happened run nodes boxes (Posts r) new_nodes new_boxes
-posts_done run nodes new_nodes boxes new_boxes r n new is enabled at nodes_are rank moved put_in =
-    let below = within nodes r n at in
+posts_done run nodes new_nodes boxes new_boxes r n new is enabled at nodes_are has put_in =
+    let below = slice_get_within nodes r n at in
+    let old = is.nodes_are r n at in
+    let moved = has.moved ∙ ap (λ k. posted (scripts run) k (node_of run n)) old.rank in
+    let rank : IsRank run r new = record { rank = has.rank ∙ old.rank; node = has.node } in
     let row : r < length boxes = rw (is.rows, ← is.count) below in
     let column : put_in.to < length (get_or boxes r []) = rw (is.row r [] row) put_in.within in
     let same = posts_same run nodes boxes r put_in.to n new put_in.letter below at moved put_in.receives put_in.first row column in
@@ -257,7 +249,7 @@ pub takes_done : (run : Run) (nodes new_nodes : List Node) (boxes new_boxes : Li
     from < run.ranks → new_boxes ≡ set boxes from (set (get_or boxes from []) r (drop 1 (flight_in boxes from r))) →
     Happened run nodes boxes (Takes r from) new_nodes new_boxes
 takes_done run nodes new_nodes boxes new_boxes r from n new is enabled at nodes_are rank moved from_below boxes_are =
-    let below = within nodes r n at in
+    let below = slice_get_within nodes r n at in
     let row : from < length boxes = rw is.rows from_below in
     let column : r < length (get_or boxes from []) = rw (is.row from [] row, ← is.count) below in
     let same = takes_same run nodes boxes r from n new below at moved row column in
@@ -283,19 +275,15 @@ want_post (Wait ∷ acts) to wanted = absurd (cc)
 -- a node by its index in the list that the world gave away
 pub lent_node : (run : Run) (nodes items : List Node) (boxes : List (List (List Letter))) (r : ℕ) (n : Node) → IsFit run nodes boxes → items ≡ nodes → r < run.ranks → n ≡ get_or items r n → slice_get nodes r ≡ Some n
 lent_node run nodes items boxes r n is are below read =
-    ap (λ xs. slice_get xs r) (sym are) ∙ read_some items r n (rw (are, is.count) below) read
-
-pub ok_four : {T E : Type 0} (result : Result T E) (A B C D F : Type 0) → OnOk result A → OnOk result B → OnOk result C → OnOk result D → (A → B → C → D → F) → OnOk result F
-ok_four (Ok x) A B C D F a b c d f = f a b c d
-ok_four (Err e) A B C D F a b c d f = tt
+    ap (λ xs. slice_get xs r) (sym are) ∙ slice_get_read items (length items) r n refl (rw (are, is.count) below) read
 
 pub takes_done_of : (run : Run) (nodes new_nodes : List Node) (boxes new_boxes : List (List (List Letter))) (r from : ℕ) (n new : Node) → IsFit run nodes boxes → can (scripts run) (world_in run nodes boxes) (Takes r from) ≡ true →
-    slice_get nodes r ≡ Some n → new_nodes ≡ set nodes r new → IsNode run new → new.rank ≡ n.rank → node_of run new ≡ took (scripts run) n.rank (node_of run n) from (take 1 (flight_in boxes from r)) →
+    slice_get nodes r ≡ Some n → new_nodes ≡ set nodes r new → HasTaken run from (take 1 (flight_in boxes from r)) n new →
     from < run.ranks → new_boxes ≡ set boxes from (set (get_or boxes from []) r (drop 1 (flight_in boxes from r))) →
     Happened run nodes boxes (Takes r from) new_nodes new_boxes
-takes_done_of run nodes new_nodes boxes new_boxes r from n new is enabled at nodes_are node kept moved from_below boxes_are =
+takes_done_of run nodes new_nodes boxes new_boxes r from n new is enabled at nodes_are has from_below boxes_are =
     let old = is.nodes_are r n at in
-    takes_done run nodes new_nodes boxes new_boxes r from n new is enabled at nodes_are (record { rank = kept ∙ old.rank; node = node }) (moved ∙ ap (λ k. took (scripts run) k (node_of run n) from (take 1 (flight_in boxes from r))) old.rank) from_below boxes_are
+    takes_done run nodes new_nodes boxes new_boxes r from n new is enabled at nodes_are (record { rank = has.rank ∙ old.rank; node = has.node }) (has.moved ∙ ap (λ k. took (scripts run) k (node_of run n) from (take 1 (flight_in boxes from r))) old.rank) from_below boxes_are
 
 pub some_in : (letters : List Letter) → has_some letters ≡ true → letters ≡ [] → ⊥
 some_in [] some none = absurd (cc)

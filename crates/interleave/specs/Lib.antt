@@ -1,1 +1,2 @@
+pub mod TwoRanks
 pub mod Worlds

@@ -1,20 +1,20 @@
 -- A world of nodes, as the world of the ranks of a run that it is.
-use Rattle.std.specs.Prelude.{◌≡◌, ℕ, ◌<◌, Bool, true, false, List, [], ◌∷◌, ◌++◌, Option, Some, None, length, map, filter, take, slice_get, slice_index_or, slice_set}
+use Rattle.std.specs.Prelude.{◌≡◌, ◌≢◌, ℕ, ◌<◌, Bool, true, false, List, [], ◌∷◌, ◌++◌, Option, Some, None, length, map, filter, take, slice_get, slice_index_or, slice_set}
 use Rattle.std.specs.List.{All, range_with_len, flat_map}
 use Rattle.bern_base.specs.declared.letter.Letter.{Letter}
 use Rattle.rank_scripts.specs.Acts.{at_end, receiver}
+use Rattle.rank_scripts.specs.Scripts.{IsNextOf, book}
 use Rattle.rank_scripts.specs.Nodes.{fresh}
 use Rattle.rank_scripts.specs.Nodes as scripted
 use Rattle.rank_scripts.specs.Worlds.{Works, Posts, Takes, Fit, can}
 use Rattle.rank_scripts.specs.Worlds as worlds
-use Rattle.rank_model.specs.Runs.{Run, IsRun, part_values}
-use Rattle.rank_model.specs.States.{end_state}
-use Rattle.rank_model.specs.Letters.{scripts}
+use Rattle.rank_model.specs.Products.{IsRun, Run, end_state, part_values, scripts}
 use Rattle.rank_node.specs.declared.node.Node.{Node}
 use Rattle.rank_node.specs.declared.stage.Want.{Want}
 use Rattle.rank_node.specs.declared.stage.Want.TheVariants as want
 use Rattle.rank_node.specs.NodeStates.{node_of, values_held, IsNode}
 use Rattle.interleave.specs.declared.event.Event.{Event}
+use Rattle.interleave.specs.declared.world.World.{World}
 use Rattle.interleave.specs.declared.event.Event.TheVariants.{Work, Post, Take}
 
 -- an event of the scripts
@@ -52,6 +52,26 @@ pub record IsFit (run : Run) (nodes : List Node) (boxes : List (List (List Lette
   pub row : All (λ row. length row ≡ run.ranks) boxes
   pub fit : Fit (scripts run) (world_in run nodes boxes)
 
+-- the world of the machine that a world is, and what each call needs of it and keeps
+abbrev pub world_of : Run → World → worlds.World Letter
+world_of run w = world_in run w.nodes w.boxes
+
+abbrev pub IsWorld : Run → World → Type 0
+IsWorld run w = IsFit run w.nodes w.boxes
+
+-- an event that happened: the world is fit still, and has gone on as the machine does
+pub record Happened (run : Run) (nodes : List Node) (boxes : List (List (List Letter))) (event : worlds.Event)
+    (new_nodes : List Node) (new_boxes : List (List (List Letter))) : Type 0 where
+  pub fit : IsFit run new_nodes new_boxes
+  pub same : world_in run new_nodes new_boxes ≡ worlds.happens (scripts run) (world_in run nodes boxes) event
+
+abbrev pub HasHappened : Run → worlds.Event → World → World → Type 0
+HasHappened run event old new = Happened run old.nodes old.boxes event new.nodes new.boxes
+
+-- what is listed has grown by those of these events that are enabled
+abbrev pub AddsEnabled : Run → World → List worlds.Event → List Event → List Event → Type 0
+AddsEnabled run w events old new = map event_of new ≡ map event_of old ++ filter (can (scripts run) (world_of run w)) events
+
 -- all events that there could be, by rank, and then work, post, and takes by sender
 abbrev pub events_of : ℕ → ℕ → List worlds.Event
 events_of ranks r = Works r ∷ Posts r ∷ map (Takes r) (range_with_len 0 ranks)
@@ -63,20 +83,31 @@ all_events ranks = flat_map (events_of ranks) (range_with_len 0 ranks)
 abbrev pub enabled_events : Run → worlds.World Letter → List worlds.Event
 enabled_events run w = filter (can (scripts run) w) (all_events run.ranks)
 
+-- a node can take the oldest of these letters in flight from rank q: it is the next of the book
+pub record CanTake (run : Run) (q : ℕ) (letters : List Letter) (n : Node) : Type 0 where
+  pub node : IsNode run n
+  pub from : q < run.ranks
+  pub some : letters ≢ []
+  pub next : (letter : Letter) → take 1 letters ≡ letter ∷ [] → IsNextOf (book (scripts run) q n.rank) ((node_of run n).given q) letter
+
+-- the letters in flight from rank p to rank q are now these, and all others as before
+abbrev pub with_flight : List (List (List Letter)) → ℕ → ℕ → List Letter → List (List (List Letter))
+with_flight boxes p q letters = slice_set boxes p (slice_set (slice_index_or boxes p []) q letters)
+
 -- one new node for each rank
 pub record IsStart (run : Run) (nodes : List Node) : Type 0 where
   pub count : length nodes ≡ run.ranks
   pub nodes_are : (r : ℕ) (n : Node) → slice_get nodes r ≡ Some n → IsRank run r n
   pub fresh_are : (r : ℕ) (n : Node) → slice_get nodes r ≡ Some n → node_of run n ≡ fresh (scripts run) r
 
--- the letter that rank r posts stands behind those in flight to its receiver
+-- the letter that rank r posts stands after those in flight to its receiver
 pub record IsPosted (run : Run) (r : ℕ) (n : Node) (old new : List (List (List Letter))) : Type 0 where
   pub to : ℕ
   pub letter : Letter
   pub receives : receiver (node_of run n).todo ≡ to
   pub within : to < run.ranks
   pub first : take 1 ((node_of run n).rest (receiver (node_of run n).todo)) ≡ letter ∷ []
-  pub boxes : new ≡ slice_set old r (slice_set (slice_index_or old r []) to (slice_index_or (slice_index_or old r []) to [] ++ letter ∷ []))
+  pub boxes : new ≡ with_flight old r to (flight_in old r to ++ letter ∷ [])
 
 abbrev pub is_work : Want → Bool
 is_work want.Work = true
@@ -104,9 +135,11 @@ pub record IsAmong (event : Event) (events : List Event) : Type 0 where
 -- each node is done, and what it holds is its rank's part of the state at the end
 pub record AreAtEnd (run : Run) (nodes : List Node) : Type 0 where
   pub done : (r : ℕ) (n : Node) → slice_get nodes r ≡ Some n → at_end (node_of run n).todo ≡ true
-  pub parts : (r array : ℕ) (n : Node) → slice_get nodes r ≡ Some n → run.dense array ≡ true → values_held n array ≡ part_values run (end_state run) array r
+  pub parts : (r array : ℕ) (n : Node) → slice_get nodes r ≡ Some n → run.dense array ≡ true →
+      values_held n array ≡ part_values run (end_state run) array r
 
 -- from a world of nodes on, whatever events are tried in whatever order
 abbrev pub EveryListIsFit : Type 0
-EveryListIsFit = (run : Run) (nodes : List Node) (boxes : List (List (List Letter))) → IsFit run nodes boxes → (events : List Event) →
+EveryListIsFit =
+    (run : Run) (nodes : List Node) (boxes : List (List (List Letter))) → IsFit run nodes boxes → (events : List Event) →
     Fit (scripts run) (worlds.run (scripts run) (world_in run nodes boxes) (map event_of events))

@@ -1,10 +1,7 @@
-ghost use Rattle.std.specs.Prelude.{◌≡◌, ◌≢◌, ◌<◌, ℕ, [], ◌∷◌, ◌++◌, Some, length, take, drop, replicate, slice_index_or, slice_set, IsTrue, ◌↔◌, IfOk, IfErr, OnOk, OnErr};
-ghost use Rattle.bern_base.specs.declared.letter.Letter.{Letter};
-ghost use Rattle.rank_scripts.specs.Scripts.{IsNextOf, book};
-ghost use Rattle.rank_scripts.specs.Nodes.{took};
-ghost use Rattle.rank_model.specs.Runs.{Run};
-ghost use Rattle.rank_model.specs.Letters.{scripts};
-ghost use Rattle.rank_node.specs.NodeStates.{node_of, IsNode};
+ghost use Rattle.std.specs.Prelude.{◌≡◌, ◌<◌, [], ◌∷◌, ◌++◌, length, take, drop, replicate, slice_index_or, slice_set, IsTrue, ◌↔◌, IfOk, OnOk, OnErr};
+ghost use Rattle.rank_model.specs.Products.{Run};
+ghost use Rattle.rank_node.specs.NodeStates.{HasTaken};
+ghost use Rattle.interleave.specs.Worlds.{CanTake, flight_in, with_flight};
 
 use bern_base::{Letter, NoMemory};
 use rank_node::Node;
@@ -42,7 +39,7 @@ impl Queue {
         self.letters.is_empty()
     }
 
-    /// Puts a letter behind the others; after want of memory all is as before.
+    /// Puts a letter after the others; after want of memory all is as before.
     fn push(&mut self, letter: Letter) -> Result<(), NoMemory>
         ensures ok { OnOk result (self.new ≡ self.old ++ letter ∷ []) }
         ensures err { OnErr result (self.new ≡ self.old) }
@@ -56,14 +53,9 @@ impl Queue {
     /// Gives the oldest letter to a node; after want of memory all is as before.
     fn deliver(&mut self, from: u32, node: &mut Node) -> Result<(), NoMemory>
         ghost run: { Run }
-        requires node { IsNode run node.old }
-        requires from { from < run.ranks }
-        requires some { self.old ≢ [] }
-        requires next { (letter : Letter) → take 1 self.old ≡ letter ∷ [] → IsNextOf (book (scripts run) from node.old.rank) ((node_of run node.old).given from) letter }
+        requires { CanTake run from self.old node.old }
         ensures queue { OnOk result (self.new ≡ drop 1 self.old) }
-        ensures node { OnOk result (IsNode run node.new) }
-        ensures rank { OnOk result (node.new.rank ≡ node.old.rank) }
-        ensures moved { OnOk result (node_of run node.new ≡ took (scripts run) node.old.rank (node_of run node.old) from (take 1 self.old)) }
+        ensures node { OnOk result (HasTaken run from (take 1 self.old) node.old node.new) }
         ensures err { OnErr result (self.new ≡ self.old) }
         ensures kept { OnErr result (node.new ≡ node.old) }
     {
@@ -125,15 +117,10 @@ impl Row {
 
     fn deliver(&mut self, from: u32, rank: u32, node: &mut Node) -> Result<(), NoMemory>
         ghost run: { Run }
-        requires node { IsNode run node.old }
-        requires from { from < run.ranks }
         requires rank { rank < length self.old }
-        requires some { slice_index_or self.old rank [] ≢ [] }
-        requires next { (letter : Letter) → take 1 (slice_index_or self.old rank []) ≡ letter ∷ [] → IsNextOf (book (scripts run) from node.old.rank) ((node_of run node.old).given from) letter }
+        requires take { CanTake run from (slice_index_or self.old rank []) node.old }
         ensures queue { OnOk result (self.new ≡ slice_set self.old rank (drop 1 (slice_index_or self.old rank []))) }
-        ensures node { OnOk result (IsNode run node.new) }
-        ensures rank { OnOk result (node.new.rank ≡ node.old.rank) }
-        ensures moved { OnOk result (node_of run node.new ≡ took (scripts run) node.old.rank (node_of run node.old) from (take 1 (slice_index_or self.old rank []))) }
+        ensures node { OnOk result (HasTaken run from (take 1 (slice_index_or self.old rank [])) node.old node.new) }
         ensures err { OnErr result (self.new ≡ self.old) }
         ensures kept { OnErr result (node.new ≡ node.old) }
     {
@@ -173,17 +160,17 @@ impl Boxes {
     pub(crate) fn is_empty(&self, from: u32, to: u32) -> bool
         requires from { from < length self.now }
         requires to { to < length (slice_index_or self.now from []) }
-        ensures { IsTrue result ↔ (slice_index_or (slice_index_or self.now from []) to [] ≡ []) }
+        ensures { IsTrue result ↔ (flight_in self.now from to ≡ []) }
     {
         let row = &self.rows[from as usize];
         row.is_empty(to)
     }
 
-    /// Puts a letter behind those in flight from one rank to another; after want of memory all is as before.
+    /// Puts a letter after those in flight from one rank to another; after want of memory all is as before.
     pub(crate) fn push(&mut self, from: u32, to: u32, letter: Letter) -> Result<(), NoMemory>
         requires from { from < length self.old }
         requires to { to < length (slice_index_or self.old from []) }
-        ensures ok { OnOk result (self.new ≡ slice_set self.old from (slice_set (slice_index_or self.old from []) to (slice_index_or (slice_index_or self.old from []) to [] ++ letter ∷ []))) }
+        ensures ok { OnOk result (self.new ≡ with_flight self.old from to (flight_in self.old from to ++ letter ∷ [])) }
         ensures err { OnErr result (self.new ≡ self.old) }
     {
         let row = &mut self.rows[from as usize];
@@ -193,16 +180,11 @@ impl Boxes {
     /// Gives the oldest letter from a rank to the node of another; after want of memory all is as before.
     pub(crate) fn deliver(&mut self, from: u32, rank: u32, node: &mut Node) -> Result<(), NoMemory>
         ghost run: { Run }
-        requires node { IsNode run node.old }
-        requires from { from < run.ranks }
         requires row { from < length self.old }
         requires rank { rank < length (slice_index_or self.old from []) }
-        requires some { slice_index_or (slice_index_or self.old from []) rank [] ≢ [] }
-        requires next { (letter : Letter) → take 1 (slice_index_or (slice_index_or self.old from []) rank []) ≡ letter ∷ [] → IsNextOf (book (scripts run) from node.old.rank) ((node_of run node.old).given from) letter }
-        ensures queue { OnOk result (self.new ≡ slice_set self.old from (slice_set (slice_index_or self.old from []) rank (drop 1 (slice_index_or (slice_index_or self.old from []) rank [])))) }
-        ensures node { OnOk result (IsNode run node.new) }
-        ensures rank { OnOk result (node.new.rank ≡ node.old.rank) }
-        ensures moved { OnOk result (node_of run node.new ≡ took (scripts run) node.old.rank (node_of run node.old) from (take 1 (slice_index_or (slice_index_or self.old from []) rank []))) }
+        requires take { CanTake run from (flight_in self.old from rank) node.old }
+        ensures queue { OnOk result (self.new ≡ with_flight self.old from rank (drop 1 (flight_in self.old from rank))) }
+        ensures node { OnOk result (HasTaken run from (take 1 (flight_in self.old from rank)) node.old node.new) }
         ensures err { OnErr result (self.new ≡ self.old) }
         ensures kept { OnErr result (node.new ≡ node.old) }
     {

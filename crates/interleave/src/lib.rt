@@ -4,12 +4,12 @@
 #![tactic(auto)]
 
 mod boxes;
+mod choices;
 mod event;
 mod laws;
-mod turns;
 mod world;
 
+pub use choices::replay;
 pub use event::{Event, StepError};
 pub use laws::every_list_of_events_is_fit;
-pub use turns::replay;
 pub use world::World;

@@ -1,12 +1,9 @@
-ghost use Rattle.std.specs.Prelude.{◌≡◌, ◌<◌, ℕ, true, false, Some, length, slice_get, slice_index_or, [], ◌∷◌, ◌++◌, map, filter, IfOk, OnOk, OnErr, IsErrOf, IsTrue, ◌↔◌};
+ghost use Rattle.std.specs.Prelude.{◌≡◌, ◌<◌, ℕ, true, false, length, slice_index_or, [], ◌∷◌, map, IfOk, OnOk, OnErr, IsErrOf, IsTrue, ◌↔◌};
 ghost use Rattle.rank_scripts.specs.Acts.{at_work, at_post, at_end};
-ghost use Rattle.rank_scripts.specs.Nodes.{posted};
-ghost use Rattle.rank_scripts.specs.Worlds.{Works, Posts, Takes, can, happens, start, done};
-ghost use Rattle.rank_model.specs.Runs.{Run, IsRun};
-ghost use Rattle.rank_model.specs.Letters.{scripts};
-ghost use Rattle.rank_node.specs.declared.node.Node.{Node};
-ghost use Rattle.rank_node.specs.NodeStates.{node_of};
-ghost use Rattle.interleave.specs.Worlds.{node_in, flight_in, world_in, event_of, is_work, is_post, is_end, events_of, enabled_events, IsRank, IsFit, IsStart, IsPosted, AreAtEnd};
+ghost use Rattle.rank_scripts.specs.Worlds.{Works, Posts, Takes, can, start, done};
+ghost use Rattle.rank_model.specs.Products.{IsRun, Run, scripts};
+ghost use Rattle.rank_node.specs.NodeStates.{node_of, HasPosted};
+ghost use Rattle.interleave.specs.Worlds.{node_in, world_of, event_of, is_work, is_post, is_end, events_of, enabled_events, AddsEnabled, AreAtEnd, HasHappened, IsPosted, IsRank, IsStart, IsWorld};
 
 use crate::boxes::Boxes;
 use crate::event::{Event, StepError};
@@ -47,8 +44,8 @@ impl World {
         ghost run: { Run }
         requires run { IsRun run }
         requires nodes { IsStart run nodes }
-        ensures fit { IfOk result (λ w. IsFit run w.nodes w.boxes) }
-        ensures start { IfOk result (λ w. world_in run w.nodes w.boxes ≡ start (scripts run)) }
+        ensures fit { IfOk result (λ w. IsWorld run w) }
+        ensures start { IfOk result (λ w. world_of run w ≡ start (scripts run)) }
     {
         let boxes = Boxes::new(alloc, nodes.len() as u32)?;
         Ok(World { nodes, boxes })
@@ -63,8 +60,8 @@ impl World {
 
     fn wants_work(&self, rank: u32) -> bool
         ghost run: { Run }
-        requires { IsFit run self.now.nodes self.now.boxes }
-        ensures { result ≡ can (scripts run) (world_in run self.now.nodes self.now.boxes) (Works rank) }
+        requires { IsWorld run self.now }
+        ensures { result ≡ can (scripts run) (world_of run self.now) (Works rank) }
     {
         match self.nodes.get(rank as usize) {
             Some(node) => is_work(node.want()),
@@ -74,8 +71,8 @@ impl World {
 
     fn wants_post(&self, rank: u32) -> bool
         ghost run: { Run }
-        requires { IsFit run self.now.nodes self.now.boxes }
-        ensures { result ≡ can (scripts run) (world_in run self.now.nodes self.now.boxes) (Posts rank) }
+        requires { IsWorld run self.now }
+        ensures { result ≡ can (scripts run) (world_of run self.now) (Posts rank) }
     {
         match self.nodes.get(rank as usize) {
             Some(node) => is_post(node.want()),
@@ -85,8 +82,8 @@ impl World {
 
     fn can_take(&self, rank: u32, from: u32) -> bool
         ghost run: { Run }
-        requires { IsFit run self.now.nodes self.now.boxes }
-        ensures { result ≡ can (scripts run) (world_in run self.now.nodes self.now.boxes) (Takes rank from) }
+        requires { IsWorld run self.now }
+        ensures { result ≡ can (scripts run) (world_of run self.now) (Takes rank from) }
     {
         let ranks = self.nodes.len();
         (rank as usize) < ranks && (from as usize) < ranks && !self.boxes.is_empty(from, rank)
@@ -94,7 +91,7 @@ impl World {
 
     fn is_done(&self, rank: u32) -> bool
         ghost run: { Run }
-        requires fit { IsFit run self.now.nodes self.now.boxes }
+        requires fit { IsWorld run self.now }
         requires rank { rank < run.ranks }
         ensures { result ≡ at_end (node_in run self.now.nodes rank).todo }
     {
@@ -104,8 +101,8 @@ impl World {
     /// Whether every rank is done. Each then holds its part of the state at the end.
     pub fn done(&self) -> bool
         ghost run: { Run }
-        requires { IsFit run self.now.nodes self.now.boxes }
-        ensures done { result ≡ done (scripts run) (world_in run self.now.nodes self.now.boxes) }
+        requires { IsWorld run self.now }
+        ensures done { result ≡ done (scripts run) (world_of run self.now) }
         ensures end { IsTrue result → AreAtEnd run self.now.nodes }
     {
         let ranks = self.nodes.len() as u32;
@@ -120,8 +117,8 @@ impl World {
     /// The events that are enabled, by rank, and then work, post, and takes by sender.
     pub fn enabled(&self, alloc: Global) -> Result<Items<Event>, NoMemory>
         ghost run: { Run }
-        requires { IsFit run self.now.nodes self.now.boxes }
-        ensures { IfOk result (λ events. map event_of events ≡ enabled_events run (world_in run self.now.nodes self.now.boxes)) }
+        requires { IsWorld run self.now }
+        ensures { IfOk result (λ events. map event_of events ≡ enabled_events run (world_of run self.now)) }
     {
         let ranks = self.nodes.len() as u32;
         let mut events = Items::new(alloc);
@@ -136,9 +133,9 @@ impl World {
 
     fn push_events(&self, rank: u32, ranks: u32, events: &mut Items<Event>) -> Result<(), NoMemory>
         ghost run: { Run }
-        requires fit { IsFit run self.now.nodes self.now.boxes }
+        requires fit { IsWorld run self.now }
         requires ranks { ranks ≡ run.ranks }
-        ensures { OnOk result (map event_of events.new ≡ map event_of events.old ++ filter (can (scripts run) (world_in run self.now.nodes self.now.boxes)) (events_of run.ranks rank)) }
+        ensures { OnOk result (AddsEnabled run self.now (events_of run.ranks rank) events.old events.new) }
     {
         match self.push_enabled(Event::Work { rank }, events) {
             Ok(()) => {}
@@ -160,8 +157,8 @@ impl World {
     /// Appends an event if it is enabled.
     fn push_enabled(&self, event: Event, events: &mut Items<Event>) -> Result<(), NoMemory>
         ghost run: { Run }
-        requires { IsFit run self.now.nodes self.now.boxes }
-        ensures { OnOk result (map event_of events.new ≡ map event_of events.old ++ filter (can (scripts run) (world_in run self.now.nodes self.now.boxes)) (event_of event ∷ [])) }
+        requires { IsWorld run self.now }
+        ensures { OnOk result (AddsEnabled run self.now (event_of event ∷ []) events.old events.new) }
     {
         if self.is_enabled(event) {
             events.push(event)
@@ -172,8 +169,8 @@ impl World {
 
     fn is_enabled(&self, event: Event) -> bool
         ghost run: { Run }
-        requires { IsFit run self.now.nodes self.now.boxes }
-        ensures { result ≡ can (scripts run) (world_in run self.now.nodes self.now.boxes) (event_of event) }
+        requires { IsWorld run self.now }
+        ensures { result ≡ can (scripts run) (world_of run self.now) (event_of event) }
     {
         match event {
             Event::Work { rank } => self.wants_work(rank),
@@ -186,10 +183,9 @@ impl World {
     /// before.
     pub fn step(&mut self, alloc: Global, event: Event) -> Result<(), StepError>
         ghost run: { Run }
-        requires { IsFit run self.old.nodes self.old.boxes }
-        ensures fit { OnOk result (IsFit run self.new.nodes self.new.boxes) }
-        ensures ok { OnOk result (world_in run self.new.nodes self.new.boxes ≡ happens (scripts run) (world_in run self.old.nodes self.old.boxes) (event_of event)) }
-        ensures refused { IsErrOf result StepError.NotEnabled ↔ (can (scripts run) (world_in run self.old.nodes self.old.boxes) (event_of event) ≡ false) }
+        requires { IsWorld run self.old }
+        ensures ok { OnOk result (HasHappened run (event_of event) self.old self.new) }
+        ensures refused { IsErrOf result StepError.NotEnabled ↔ (can (scripts run) (world_of run self.old) (event_of event) ≡ false) }
         ensures err { OnErr result (self.new ≡ self.old) }
     {
         if !self.is_enabled(event) {
@@ -203,10 +199,9 @@ impl World {
 
     fn happen(&mut self, alloc: Global, event: Event) -> Result<(), NoMemory>
         ghost run: { Run }
-        requires fit { IsFit run self.old.nodes self.old.boxes }
-        requires enabled { can (scripts run) (world_in run self.old.nodes self.old.boxes) (event_of event) ≡ true }
-        ensures fit { OnOk result (IsFit run self.new.nodes self.new.boxes) }
-        ensures ok { OnOk result (world_in run self.new.nodes self.new.boxes ≡ happens (scripts run) (world_in run self.old.nodes self.old.boxes) (event_of event)) }
+        requires fit { IsWorld run self.old }
+        requires enabled { can (scripts run) (world_of run self.old) (event_of event) ≡ true }
+        ensures ok { OnOk result (HasHappened run (event_of event) self.old self.new) }
         ensures err { OnErr result (self.new ≡ self.old) }
     {
         match event {
@@ -218,10 +213,9 @@ impl World {
 
     fn work(&mut self, alloc: Global, rank: u32) -> Result<(), NoMemory>
         ghost run: { Run }
-        requires fit { IsFit run self.old.nodes self.old.boxes }
-        requires enabled { can (scripts run) (world_in run self.old.nodes self.old.boxes) (Works rank) ≡ true }
-        ensures fit { OnOk result (IsFit run self.new.nodes self.new.boxes) }
-        ensures ok { OnOk result (world_in run self.new.nodes self.new.boxes ≡ happens (scripts run) (world_in run self.old.nodes self.old.boxes) (Works rank)) }
+        requires fit { IsWorld run self.old }
+        requires enabled { can (scripts run) (world_of run self.old) (Works rank) ≡ true }
+        ensures ok { OnOk result (HasHappened run (Works rank) self.old self.new) }
         ensures err { OnErr result (self.new ≡ self.old) }
     {
         let mut nodes = std::mem::replace(&mut self.nodes, Items::new(alloc)).into_vec();
@@ -232,10 +226,9 @@ impl World {
 
     fn post(&mut self, alloc: Global, rank: u32) -> Result<(), NoMemory>
         ghost run: { Run }
-        requires fit { IsFit run self.old.nodes self.old.boxes }
-        requires enabled { can (scripts run) (world_in run self.old.nodes self.old.boxes) (Posts rank) ≡ true }
-        ensures fit { OnOk result (IsFit run self.new.nodes self.new.boxes) }
-        ensures ok { OnOk result (world_in run self.new.nodes self.new.boxes ≡ happens (scripts run) (world_in run self.old.nodes self.old.boxes) (Posts rank)) }
+        requires fit { IsWorld run self.old }
+        requires enabled { can (scripts run) (world_of run self.old) (Posts rank) ≡ true }
+        ensures ok { OnOk result (HasHappened run (Posts rank) self.old self.new) }
         ensures err { OnErr result (self.new ≡ self.old) }
     {
         let mut nodes = std::mem::replace(&mut self.nodes, Items::new(alloc)).into_vec();
@@ -246,10 +239,9 @@ impl World {
 
     fn take(&mut self, alloc: Global, rank: u32, from: u32) -> Result<(), NoMemory>
         ghost run: { Run }
-        requires fit { IsFit run self.old.nodes self.old.boxes }
-        requires enabled { can (scripts run) (world_in run self.old.nodes self.old.boxes) (Takes rank from) ≡ true }
-        ensures fit { OnOk result (IsFit run self.new.nodes self.new.boxes) }
-        ensures ok { OnOk result (world_in run self.new.nodes self.new.boxes ≡ happens (scripts run) (world_in run self.old.nodes self.old.boxes) (Takes rank from)) }
+        requires fit { IsWorld run self.old }
+        requires enabled { can (scripts run) (world_of run self.old) (Takes rank from) ≡ true }
+        ensures ok { OnOk result (HasHappened run (Takes rank from) self.old self.new) }
         ensures err { OnErr result (self.new ≡ self.old) }
     {
         let mut nodes = std::mem::replace(&mut self.nodes, Items::new(alloc)).into_vec();
@@ -266,8 +258,7 @@ fn post_letter(node: &mut Node, boxes: &mut Boxes, alloc: Global, rank: u32) -> 
     requires post { at_post (node_of run node.old).todo ≡ true }
     requires row { rank < length boxes.old }
     requires column { (to : ℕ) → to < run.ranks → to < length (slice_index_or boxes.old rank []) }
-    ensures node { OnOk result (IsRank run rank node.new) }
-    ensures moved { OnOk result (node_of run node.new ≡ posted (scripts run) rank (node_of run node.old)) }
+    ensures node { OnOk result (HasPosted run node.old node.new) }
     ensures boxes { OnOk result (IsPosted run rank node.old boxes.old boxes.new) }
     ensures err { OnErr result (node.new ≡ node.old) }
     ensures kept { OnErr result (boxes.new ≡ boxes.old) }

@@ -1,4 +1,4 @@
--- A text comes to one answer.
+-- A text has one answer.
 use Rattle.std.proofs.Common.{◌≡◌, ◌∙◌, inl, inr, ℕ, List, [], ◌∷◌, Option, Some, None, sym}
 use Rattle.bern_base.specs.declared.job.Checked.{Checked}
 use Rattle.bern_base.specs.declared.raw.JobLine.{JobLine}
@@ -26,11 +26,11 @@ one_refusal state [] (Some line) a b r s first second = (first.0 ∙ sym second.
 one_refusal state (l ∷ lines) broken a b r s first second = elim first [
   | inl here ↦ elim second [
     | inl there ↦ (here.1 ∙ sym there.1, same_some (broken_rule state l.form) r s here.0 there.0)
-    | inr behind ↦ absurd (not_both (broken_rule state l.form) r here.0 behind.0)
+    | inr later ↦ absurd (not_both (broken_rule state l.form) r here.0 later.0)
   ]
-  | inr behind ↦ elim second [
-    | inl there ↦ absurd (not_both (broken_rule state l.form) s there.0 behind.0)
-    | inr rest ↦ one_refusal (after state l.number l.form) lines broken a b r s behind.1 rest.1
+  | inr later ↦ elim second [
+    | inl there ↦ absurd (not_both (broken_rule state l.form) s there.0 later.0)
+    | inr rest ↦ one_refusal (after state l.number l.form) lines broken a b r s later.1 rest.1
   ]
 ]
 

@@ -74,13 +74,13 @@ added-once w n p c [] distinct some = absurd cc
 added-once w n p c (v ∷ vs) distinct some = by (v == w) refl (added-once w n p c vs distinct.1)
   where
     by : (b : Bool) → (v == w) ≡ b → (list_any (λ x. x == w) vs ≡ true → added (part w n p) c vs ≡ c +ℤ n *ℤ p w) → added (part w n p) c (v ∷ vs) ≡ c +ℤ n *ℤ p w
-    by true same behind =
+    by true same rest_is =
         let e : v ≡ w = grind (arith, nat_tests) in
         let none : list_any (λ x. x == w) vs ≡ false = subst (λ k. list_any (λ x. x == k) vs ≡ false) e distinct.0 in
         ap (λ t. added (part w n p) (c +ℤ t) vs) (part-same w n p v (flip v w true same)) ∙ added-none w n p (c +ℤ n *ℤ p w) vs none
-    by false other behind =
+    by false other rest_is =
         let rest : list_any (λ x. x == w) vs ≡ true = sym (ap (λ b. b || list_any (λ x. x == w) vs) other) ∙ some in
-        ap (λ t. added (part w n p) (c +ℤ t) vs) (part-other w n p v (flip v w false other)) ∙ ap (λ t. added (part w n p) t vs) (+ℤ_idr c) ∙ behind rest
+        ap (λ t. added (part w n p) (c +ℤ t) vs) (part-other w n p v (flip v w false other)) ∙ ap (λ t. added (part w n p) t vs) (+ℤ_idr c) ∙ rest_is rest
 
 -- a value, by a constant, the coefficient of each variable, and a list of the variables that have one
 pub record Keeps (p : Point) (c val : ℤ) (k : ℕ → ℤ) (vs : List ℕ) : Type 0 where

@@ -1,4 +1,4 @@
--- The subscripts of an accepted nest stay inside their extents.
+-- The subscripts of an accepted nest stay inside their extents, at each point of four values.
 use Rattle.std.proofs.Common.{◌≡◌, ◌∙◌, inl, inr, ℕ, zero, suc, ◌+◌, ◌<◌, ◌≤◌, Bool, true, false, ◌||◌, ◌==◌, cond, if◌then◌else◌, List, [], ◌∷◌, ◌++◌, map, Option, Some, None, length, ℤ, pos, ◌+ℤ◌, ◌*ℤ◌, ◌≤ℤ◌, ◌<ℤ◌, refl, sym, ap, subst, arith}
 use Rattle.std.specs.Prelude.{int_le}
 use Rattle.std.specs.List.{fold, list_any}
@@ -6,22 +6,24 @@ use Rattle.std.specs.Option.{option_or}
 use Rattle.std.specs.Str.{bytes_eq}
 use Rattle.std.proofs.lemmas.Int.{ints, by_lt_z}
 use lib.IntN.{zero-*ℤ}
-use Rattle.std.proofs.lemmas.List.{length_push}
+use Rattle.std.proofs.lemmas.List.{get_or_past, length-map, length_push}
+use Rattle.bern_base.specs.Affine.{AffineForm, IsInBox, IsInSpan, number_of, value_at}
 use Rattle.bern_base.specs.declared.job.ExtentDecl.{ExtentDecl}
+use Rattle.bern_base.specs.declared.limits.TheConstants.{MOST_VARIABLES}
 use Rattle.bern_base.specs.declared.raw.RawItem.{RawItem}
-use Rattle.bern_base.specs.declared.raw.RawSum.{RawSum}
 use Rattle.bern_base.specs.declared.raw.RawVar.{RawVar}
+use Rattle.job_model.specs.Points.{bounds_at, spans_of}
 use Rattle.job_rules.specs.declared.names.Named.{Named}
 use Rattle.job_rules.specs.declared.names.Named.TheVariants as named
 use Rattle.job_rules.specs.declared.ranges.Range.{Range}
 use Rattle.job_rules.specs.Known.{Known, lookup}
 use Rattle.job_rules.specs.State.{is_known}
-use Rattle.job_rules.specs.Looked.{Scope, named_in, meaning_of, meaning_in, item_of, sum_of, with_variable, variables_of}
-use Rattle.job_rules.specs.Sums.{Sum, variable_of, constant_part, coefficient_part, constant_of, coefficient_of, is_within}
-use Rattle.job_rules.specs.Nests.{is_box_empty, leaves_extent}
-use Rattle.job_rules.specs.Points.{Point, InBox, value_part, value_at, LeavesSomewhere}
-use Rattle.job_rules.specs.After.{narrow_of}
-use Rattle.job_rules.specs.Accepted.{form_value}
+use Rattle.job_rules.specs.Looked.{Scope, named_in, meaning_of, meaning_in, item_of, span_of, with_variable, variables_of}
+use Rattle.job_rules.specs.Sums.{Sum, variable_of, constant_part, coefficient_part, constant_of, coefficient_of, is_within, range_at}
+use Rattle.job_rules.specs.Nests.{is_box_empty, leaves_extent, range_of}
+use Rattle.job_rules.specs.Points.{Point, InBox, value_part, value_at as sum_at, LeavesSomewhere}
+use Rattle.job_rules.specs.After.{narrow_of, checked_span}
+use Rattle.job_rules.proofs.FormLemmas.{narrow_is}
 use Rattle.job_rules.proofs.BoxLemmas.{added, Keeps, step_none, step_old, leaves_at_points}
 
 -- the variables of a table have numbers below this
@@ -76,13 +78,14 @@ numbered_below known (var ∷ vars) below =
 abbrev pub IsNarrowScope : Scope → Type 0
 IsNarrowScope scope = AreBelow 4 scope.names × AreBelow 4 scope.variables
 
-pub narrow_scope : (names : Known) (vars : List RawVar) (extents : List ExtentDecl) → AreBelow 0 names → length vars ≤ 4 → IsNarrowScope (record { names = names; variables = variables_of vars; extents = extents })
+pub narrow_scope : (names : Known) (vars : List RawVar) (extents : List ExtentDecl) → AreBelow 0 names → length vars ≤ MOST_VARIABLES → IsNarrowScope (record { names = names; variables = variables_of vars; extents = extents })
 unfolding variables_of
 narrow_scope names vars extents plain few =
     let all = numbered_below [] vars tt in
     (all_below 0 4 names (omega arith) plain, all_below (length (fold with_variable [] vars)) 4 (fold with_variable [] vars) (omega (arith, all.1)) all.0)
 
-abbrev FewVariables : Sum → Type 0
+-- the variables of a sum are among the four
+abbrev pub FewVariables : Sum → Type 0
 FewVariables [] = Unit {0}
 FewVariables (item ∷ items) = ((v : ℕ) → variable_of item.meaning ≡ Some v → v < 4) × FewVariables items
 
@@ -103,7 +106,7 @@ item_below scope narrow None v is = absurd cc
 item_below scope narrow (Some name) v is =
     meaning_below (named_in scope name) (either_below (lookup name scope.names) (lookup name scope.variables) (λ w f. found_below 4 name scope.names w narrow.0 f) (λ w f. found_below 4 name scope.variables w narrow.1 f)) v is
 
-few_variables : (scope : Scope) → IsNarrowScope scope → (items : List RawItem) → FewVariables (map (item_of scope) items)
+pub few_variables : (scope : Scope) → IsNarrowScope scope → (items : List RawItem) → FewVariables (map (item_of scope) items)
 unfolding item_of
 few_variables scope narrow [] = tt
 few_variables scope narrow (item ∷ items) = (item_below scope narrow item.name, few_variables scope narrow items)
@@ -136,10 +139,42 @@ module _ (p : Point) where
   zeros : added (λ v. pos 0 *ℤ p v) (pos 0) four_variables ≡ pos 0
   zeros = λ i. added (λ v. zero-*ℤ (p v) i) (pos 0) four_variables
 
-  -- the value of a sum of four variables is that of its form
-  form_is : (sum : Sum) → FewVariables sum → is_within sum ≡ true → value_at p sum ≡ form_value p (narrow_of sum)
-  unfolding narrow_of constant_of coefficient_of
-  form_is sum few within = rw within (keep_four sum (pos 0) (pos 0) (λ v. pos 0) few (record { same = sym zeros; once = (refl, (refl, (refl, (refl, tt)))); covers = λ w none. refl })).same
+  -- the value of a sum of four variables, by its constant and its four coefficients
+  four_is : (sum : Sum) → FewVariables sum → sum_at p sum ≡ added (λ v. coefficient_of v sum *ℤ p v) (constant_of sum) four_variables
+  unfolding constant_of coefficient_of
+  four_is sum few = (keep_four sum (pos 0) (pos 0) (λ v. pos 0) few (record { same = sym zeros; once = (refl, (refl, (refl, (refl, tt)))); covers = λ w none. refl })).same
+
+-- is that of its form
+form_is : (sum : Sum) (point : List ℤ) → FewVariables sum → is_within sum ≡ true → sum_at (number_of point) sum ≡ value_at (narrow_of sum) point
+form_is sum point few within = four_is (number_of point) sum few ∙ sym (ap (λ (form : AffineForm). value_at form point) (narrow_is sum within))
+
+-- a point of four values lies in the box of the ranges that its spans come from
+module _ (scope : Scope) where
+  bounds_are : (vars : List RawVar) (v : ℕ) → bounds_at (map (checked_span scope) vars) v ≡ ((range_at (map range_of (map (span_of scope) vars)) v).lo, (range_at (map range_of (map (span_of scope) vars)) v).hi)
+  unfolding checked_span span_of
+  bounds_are [] v = refl
+  bounds_are (var ∷ vars) zero = refl
+  bounds_are (var ∷ vars) (suc v) = bounds_are vars v
+
+  module _ (vars : List RawVar) (few : length vars ≤ MOST_VARIABLES) (point : List ℤ) (inside : IsInBox (spans_of (map (checked_span scope) vars)) point) where
+    abbrev ranges : List Range
+    ranges = map range_of (map (span_of scope) vars)
+
+    no_more : (v : ℕ) → 4 ≤ v → ((range_at ranges v).lo ≤ℤ number_of point v) × (number_of point v <ℤ (range_at ranges v).hi)
+    no_more v past =
+        let many = length-map (map (span_of scope) vars) range_of in
+        let as_many = length-map vars (span_of scope) in
+        let short = inside.four in
+        let no_span = get_or_past ranges v (record { lo = pos 0; hi = pos 1 }) (omega (arith, many, as_many, few, past)) in
+        let no_value = get_or_past point v (pos 0) (omega (arith, short, past)) in
+        rw (no_span, no_value) (omega (arith, ints), omega (arith, ints))
+
+    pub in_ranges : InBox ranges (number_of point)
+    in_ranges zero = subst (λ s. IsInSpan s (number_of point 0)) (bounds_are vars 0) (inside.each 0 (omega arith))
+    in_ranges (suc zero) = subst (λ s. IsInSpan s (number_of point 1)) (bounds_are vars 1) (inside.each 1 (omega arith))
+    in_ranges (suc (suc zero)) = subst (λ s. IsInSpan s (number_of point 2)) (bounds_are vars 2) (inside.each 2 (omega arith))
+    in_ranges (suc (suc (suc zero))) = subst (λ s. IsInSpan s (number_of point 3)) (bounds_are vars 3) (inside.each 3 (omega arith))
+    in_ranges (suc (suc (suc (suc v)))) = no_more (suc (suc (suc (suc v)))) (omega arith)
 
 pub box_some : (ranges : List Range) (p : Point) → InBox ranges p → is_box_empty ranges ≡ false
 unfolding is_box_empty
@@ -150,14 +185,13 @@ box_some (range ∷ ranges) p inside =
     ap (λ b. b || list_any (λ r. int_le r.hi r.lo) ranges) e ∙ box_some ranges (λ v. p (suc v)) (λ v. inside (suc v))
 
 -- where the test of J10 fails, the form stays inside at each point
-pub stays_inside : (scope : Scope) (raw : RawSum) (ranges : List Range) (extent : ℕ) (p : Point) → IsNarrowScope scope → is_within (sum_of scope raw) ≡ true → InBox ranges p → leaves_extent ranges extent (sum_of scope raw) ≡ false
-    → (pos 0 ≤ℤ form_value p (narrow_of (sum_of scope raw))) × (form_value p (narrow_of (sum_of scope raw)) <ℤ pos extent)
-unfolding sum_of
-stays_inside scope raw ranges extent p narrow within inside stays =
-    let sum = sum_of scope raw in
-    let same = form_is p sum (few_variables scope narrow raw.items) within in
+pub stays_inside : (sum : Sum) (ranges : List Range) (extent : ℕ) (point : List ℤ) → FewVariables sum → is_within sum ≡ true → InBox ranges (number_of point) → leaves_extent ranges extent sum ≡ false
+    → (pos 0 ≤ℤ value_at (narrow_of sum) point) × (value_at (narrow_of sum) point <ℤ pos extent)
+stays_inside sum ranges extent point few within inside stays =
+    let p : Point = number_of point in
+    let same = form_is sum point few within in
     let out : LeavesSomewhere ranges extent sum → ⊥ = (λ somewhere. let t = (leaves_at_points ranges extent sum (box_some ranges p inside)).1 somewhere in cc) in
-    let low : value_at p sum <ℤ pos 0 → ⊥ = (λ h. out (p, inside, inl h)) in
-    let high : pos extent ≤ℤ value_at p sum → ⊥ = (λ h. out (p, inside, inr h)) in
+    let low : sum_at p sum <ℤ pos 0 → ⊥ = (λ h. out (p, inside, inl h)) in
+    let high : pos extent ≤ℤ sum_at p sum → ⊥ = (λ h. out (p, inside, inr h)) in
     subst (λ x. (pos 0 ≤ℤ x) × (x <ℤ pos extent)) same
-    (by_lt_z (value_at p sum) (pos 0) (λ h. absurd (low h)) (λ h. h), by_lt_z (value_at p sum) (pos extent) (λ h. h) (λ h. absurd (high h)))
+    (by_lt_z (sum_at p sum) (pos 0) (λ h. absurd (low h)) (λ h. h), by_lt_z (sum_at p sum) (pos extent) (λ h. h) (λ h. absurd (high h)))

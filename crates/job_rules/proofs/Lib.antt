@@ -3,12 +3,17 @@ pub mod IntLemmas
 pub mod ListLemmas
 pub mod LookedLemmas
 pub mod TermLemmas
+mod TurnLemmas
 pub mod SumLemmas
 pub mod NestLemmas
-pub mod WalkLemmas
+pub mod DraftLemmas
 pub mod ProductLemmas
 pub mod BoxLemmas
 pub mod FormLemmas
+pub mod ExpressionLemmas
 pub mod InsideLemmas
+pub mod OneToOneLemmas
+pub mod ThereLemmas
+pub mod ReadLemmas
 pub mod AcceptedLemmas
 pub mod AnswerLemmas

@@ -5,31 +5,32 @@ use Rattle.std.proofs.lemmas.List.{length-map}
 use Rattle.std.specs.List.{list_any}
 use Rattle.std.proofs.lemmas.Bool.Decides.{nat_tests}
 use Rattle.job_rules.specs.declared.terms.Size.{Size}
-use Rattle.job_rules.specs.Terms.{choices, most, size_of, has_too_many}
+use Rattle.job_model.specs.References.{joined}
+use Rattle.job_rules.specs.Terms.{most, size_of, has_too_many}
 
 pub most-append : (xs ys : List ℕ) → most (xs ++ ys) ≡ max (most xs) (most ys)
 most-append [] ys = omega arith
 most-append (x ∷ xs) ys = let rest = most-append xs ys in omega arith
 
-pub length-choices : (xs ys : List ℕ) → length (choices xs ys) ≡ length xs * length ys
-length-choices [] ys = omega arith
-length-choices (x ∷ xs) ys =
-    let rest = length-choices xs ys in
+pub length-joined : (xs ys : List ℕ) → length (joined xs ys) ≡ length xs * length ys
+length-joined [] ys = omega arith
+length-joined (x ∷ xs) ys =
+    let rest = length-joined xs ys in
     let first = length-map ys (λ b. x + b) in
-    omega (arith, length-append (map (λ b. x + b) ys) (choices xs ys))
+    omega (arith, length-append (map (λ b. x + b) ys) (joined xs ys))
 
 most-map : (a y : ℕ) (ys : List ℕ) → most (map (λ b. a + b) (y ∷ ys)) ≡ a + most (y ∷ ys)
 most-map a y [] = omega arith
 most-map a y (z ∷ ys) = let rest = most-map a z ys in omega arith
 
-most-choices : (x : ℕ) (xs : List ℕ) (y : ℕ) (ys : List ℕ) → most (choices (x ∷ xs) (y ∷ ys)) ≡ most (x ∷ xs) + most (y ∷ ys)
-most-choices x [] y ys =
+most-joined : (x : ℕ) (xs : List ℕ) (y : ℕ) (ys : List ℕ) → most (joined (x ∷ xs) (y ∷ ys)) ≡ most (x ∷ xs) + most (y ∷ ys)
+most-joined x [] y ys =
     let first = most-map x y ys in
     omega (arith, most-append (map (λ b. x + b) (y ∷ ys)) [])
-most-choices x (z ∷ xs) y ys =
+most-joined x (z ∷ xs) y ys =
     let first = most-map x y ys in
-    let rest = most-choices z xs y ys in
-    omega (arith, most-append (map (λ b. x + b) (y ∷ ys)) (choices (z ∷ xs) (y ∷ ys)))
+    let rest = most-joined z xs y ys in
+    omega (arith, most-append (map (λ b. x + b) (y ∷ ys)) (joined (z ∷ xs) (y ∷ ys)))
 
 le_or_le : (a n : ℕ) → (a ≤ n) ⊎ (n ≤ a)
 le_or_le zero n = inl (omega arith)
@@ -62,7 +63,7 @@ or_is self other xs ys t m first second is_t is_m =
     λ i. record { terms = terms i; most = mosts i }
 
 pub times_some : (self other : Size) (xs ys : List ℕ) (n t m : ℕ) → self ≡ size_of xs → other ≡ size_of ys → n ≡ min self.terms 17 * min other.terms 17 → n ≢ 0 → t ≡ min n 17
-    → m ≡ min (min self.most 5 + min other.most 5) 5 → (let size : Size = record { terms = t; most = m } in size ≡ size_of (choices xs ys))
+    → m ≡ min (min self.most 5 + min other.most 5) 5 → (let size : Size = record { terms = t; most = m } in size ≡ size_of (joined xs ys))
 times_some self other [] ys n t m first second is_n some is_t is_m =
     let a : self.terms ≡ 0 = ap (λ s. s.terms) first in
     let z : min self.terms 17 ≡ 0 = omega arith in
@@ -81,18 +82,18 @@ times_some self other (x ∷ xs) (y ∷ ys) n t m first second is_n some is_t is
     let aa : min self.terms 17 ≡ min 17 (suc (length xs)) = omega arith in
     let bb : min other.terms 17 ≡ min 17 (suc (length ys)) = omega arith in
     let nn : n ≡ min 17 (suc (length xs)) * min 17 (suc (length ys)) = is_n ∙ ap (λ k. k * min other.terms 17) aa ∙ ap (λ k. min 17 (suc (length xs)) * k) bb in
-    let terms : t ≡ min 17 (length (choices (x ∷ xs) (y ∷ ys))) = omega (arith, cap-some (length xs) (length ys), length-choices (x ∷ xs) (y ∷ ys)) in
-    let mosts : m ≡ min 5 (most (choices (x ∷ xs) (y ∷ ys))) = omega (arith, most-choices x xs y ys) in
+    let terms : t ≡ min 17 (length (joined (x ∷ xs) (y ∷ ys))) = omega (arith, cap-some (length xs) (length ys), length-joined (x ∷ xs) (y ∷ ys)) in
+    let mosts : m ≡ min 5 (most (joined (x ∷ xs) (y ∷ ys))) = omega (arith, most-joined x xs y ys) in
     λ i. record { terms = terms i; most = mosts i }
 
-choices-none : (xs : List ℕ) → choices xs [] ≡ []
-choices-none [] = refl
-choices-none (x ∷ xs) = choices-none xs
+joined-none : (xs : List ℕ) → joined xs [] ≡ []
+joined-none [] = refl
+joined-none (x ∷ xs) = joined-none xs
 
 pub times_none : (self other : Size) (xs ys : List ℕ) (n : ℕ) → self ≡ size_of xs → other ≡ size_of ys → n ≡ min self.terms 17 * min other.terms 17 → n ≡ 0
-    → (let size : Size = record { terms = 0; most = 0 } in size ≡ size_of (choices xs ys))
+    → (let size : Size = record { terms = 0; most = 0 } in size ≡ size_of (joined xs ys))
 times_none self other [] ys n first second is_n none = λ i. record { terms = 0; most = 0 }
-times_none self other (x ∷ xs) [] n first second is_n none = ap size_of (sym (choices-none (x ∷ xs)))
+times_none self other (x ∷ xs) [] n first second is_n none = ap size_of (sym (joined-none (x ∷ xs)))
 times_none self other (x ∷ xs) (y ∷ ys) n first second is_n none =
     let a : self.terms ≡ min 17 (suc (length xs)) = ap (λ s. s.terms) first in
     let b : other.terms ≡ min 17 (suc (length ys)) = ap (λ s. s.terms) second in

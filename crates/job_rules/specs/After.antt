@@ -14,9 +14,10 @@ use Rattle.bern_base.specs.declared.job.PlaceKind.{PlaceKind}
 use Rattle.bern_base.specs.declared.job.PlaceKind.TheVariants as dealt
 use Rattle.bern_base.specs.declared.job.Product.{Product, roll-Product}
 use Rattle.bern_base.specs.declared.job.Ref.{Ref}
-use Rattle.bern_base.specs.declared.job.Shape.{Shape}
-use Rattle.bern_base.specs.declared.job.Shape.TheVariants as shaped
+use Rattle.bern_base.specs.declared.shape.Shape.{Shape}
+use Rattle.bern_base.specs.declared.shape.Shape.TheVariants as shaped
 use Rattle.bern_base.specs.declared.job.Span.{Span}
+use Rattle.bern_base.specs.declared.limits.TheConstants.{EXPRESSION_LEVELS, MOST_BOUND}
 use Rattle.bern_base.specs.declared.raw.Form.{Form}
 use Rattle.bern_base.specs.declared.raw.Form.TheVariants as form
 use Rattle.bern_base.specs.declared.raw.RawExpr.{RawExpr, out-RawExpr}
@@ -32,10 +33,10 @@ use Rattle.bern_base.specs.declared.raw.RawShape.{RawShape}
 use Rattle.bern_base.specs.declared.raw.RawShape.TheVariants as shape
 use Rattle.bern_base.specs.declared.raw.RawVar.{RawVar}
 use Rattle.job_rules.specs.declared.names.Named.TheVariants as named
-use Rattle.job_rules.specs.declared.wide.WideRef.{WideRef}
+use Rattle.job_rules.specs.declared.resolved.ResolvedRef.{ResolvedRef}
 use Rattle.job_rules.specs.Known.{lookup}
 use Rattle.job_rules.specs.State.{State, number_of, extent_size}
-use Rattle.job_rules.specs.Looked.{Scope, scope_of, sum_of, ref_of, levels}
+use Rattle.job_rules.specs.Looked.{Scope, scope_of, sum_of, ref_of}
 use Rattle.job_rules.specs.Sums.{Sum, constant_of, is_within, affine_of, difference_of}
 
 abbrev pub kind_of : RawKind → PlaceKind
@@ -76,7 +77,7 @@ no_form = record { c0 = pos 0; coef = pos 0 ∷ pos 0 ∷ pos 0 ∷ pos 0 ∷ []
 unfoldable pub narrow_of : Sum → AffineForm
 narrow_of sum = if is_within sum then affine_of sum else no_form
 
-unfoldable pub narrow_ref : WideRef → Ref
+unfoldable pub narrow_ref : ResolvedRef → Ref
 narrow_ref ref = record { array = number_of ref.array; row = narrow_of ref.row; col = narrow_of ref.col }
 
 unfoldable pub checked_ref : Scope → RawRef → Ref
@@ -91,7 +92,7 @@ checked_guard scope guard = record { left = narrow_difference (sum_of scope guar
 
 -- the bounds are within their limits
 abbrev pub IsNear : Scope → RawVar → Type 0
-IsNear scope var = (unsigned_abs (constant_of (sum_of scope var.lo)) ≤ 4194304) × (unsigned_abs (constant_of (sum_of scope var.hi)) ≤ 4194304)
+IsNear scope var = (unsigned_abs (constant_of (sum_of scope var.lo)) ≤ MOST_BOUND) × (unsigned_abs (constant_of (sum_of scope var.hi)) ≤ MOST_BOUND)
 
 unfoldable pub checked_span : Scope → RawVar → Span
 checked_span scope var = record { name = var.name; lo = constant_of (sum_of scope var.lo); hi = constant_of (sum_of scope var.hi) }
@@ -117,7 +118,7 @@ checked_nest scope line nest = record {
   guards = map (checked_guard scope) nest.guards;
   target = checked_ref scope nest.target;
   replace = nest.replace;
-  body = checked_expr scope levels nest.body;
+  body = checked_expr scope EXPRESSION_LEVELS nest.body;
 }
 
 abbrev pub with_extent : State → ExtentDecl → State
@@ -144,7 +145,7 @@ with_array state decl = record {
   job = record state.job { arrays = state.job.arrays ++ decl ∷ [] };
 }
 
--- what stands after a line that breaks no rule: its names are known from the next line on
+-- what stands after a line that breaks no rule: its names are known from the next line on, and a nest is the next turn
 abbrev pub after : State → ℕ → Form → State
 after state line (form.Extent name size) = with_extent state (record { name = name; size = size })
 after state line (form.Place name extent how) =
@@ -162,7 +163,10 @@ after state line (form.Array name extents format axis place file) = with_array s
 })
 after state line (form.Nest nest) = record {
   names = state.names;
-  job = record state.job { nests = state.job.nests ++ checked_nest (scope_of state nest) line nest ∷ [] };
+  job = record state.job {
+    nests = state.job.nests ++ checked_nest (scope_of state nest) line nest ∷ [];
+    turns = state.job.turns ++ length state.job.nests ∷ [];
+  };
 }
 after state line (form.Print name) = record {
   names = state.names;

@@ -1,4 +1,4 @@
--- What a job text comes to: the first refusal, by its line and then by the order of the rules, or the job with numbers for names.
+-- The answer to a job text: the first refusal, by its line and then by the order of the rules, or the job with numbers for names.
 use Rattle.std.specs.Prelude.{◌≡◌, ◌⊎◌, ℕ, List, [], ◌∷◌, Option, Some, None}
 use Rattle.bern_base.specs.declared.job.Checked.{Checked}
 use Rattle.bern_base.specs.declared.raw.JobLine.{JobLine}
@@ -47,7 +47,7 @@ abbrev pub StopsAt : Option Rule → Stop → Type 0
 StopsAt first (stop.Broken rule) = first ≡ Some rule
 StopsAt first stop.NoMemory = Unit {0}
 
--- what a reader of job texts gives, as far as the rules rest on it: sums are short and their numbers small
+-- what a reader of job texts gives, as far as the rules rest on it: sums are short, their numbers small, and expressions of few levels
 abbrev pub IsReadableForm : Form → Type 0
 IsReadableForm (form.Nest nest) = IsReadableNest nest
 IsReadableForm other = Unit {0}
@@ -59,12 +59,12 @@ abbrev pub RefusesAs : JobText → CheckError → Type 0
 RefusesAs text (error.Refused line rule) = Refuses text line rule
 RefusesAs text error.NoMemory = Unit {0}
 
--- what is left of a text from a line on, where this stands before it, comes to the same as the whole
+-- what is left of a text from a line on, where this stands before it, has the answers of the whole
 pub record Leads (state : State) (lines : List JobLine) (text : JobText) : Type 0 where
   pub accepts : (job : Checked) → AcceptsFrom state lines text.broken job → Accepts text job
   pub refuses : (line : ℕ) (rule : Rule) → RefusesFrom state lines text.broken line rule → Refuses text line rule
 
--- a text comes to one answer: to one job, or to one line and rule, and never to both
+-- a text has one answer: one job, or one line and rule, and never both
 pub record HasOneAnswer (text : JobText) : Type 0 where
   pub job : (a b : Checked) → Accepts text a → Accepts text b → a ≡ b
   pub line : (a b : ℕ) (r s : Rule) → Refuses text a r → Refuses text b s → a ≡ b

@@ -8,4 +8,3 @@ pub mod Rules
 pub mod After
 pub mod First
 pub mod Points
-pub mod Accepted

@@ -1,8 +1,10 @@
 -- A nest with its names looked up.
-use Rattle.std.specs.Prelude.{ℕ, List, [], ◌∷◌, ◌++◌, Option, Some, None, Bool, true, false, ℤ, pos, neg_ℤ, ◌*ℤ◌, map, if◌then◌else◌, length, zero, suc, slice_index_or, ◌<◌, ◌≤◌, ◌^◌}
+use Rattle.std.specs.Prelude.{ℕ, List, [], ◌∷◌, ◌++◌, Option, Some, None, Bool, true, false, ℤ, pos, neg_ℤ, ◌*ℤ◌, map, if◌then◌else◌, length, zero, suc, slice_index_or, ◌≤◌}
 use Rattle.std.specs.List.{fold, flat_map, All}
 use Rattle.std.specs.Option.{option_or}
+use Rattle.bern_base.specs.RawDepth.{IsShallow}
 use Rattle.bern_base.specs.declared.job.ExtentDecl.{ExtentDecl}
+use Rattle.bern_base.specs.declared.limits.TheConstants.{EXPRESSION_LEVELS, MOST_ITEMS, MOST_SUM_NUMBER}
 use Rattle.bern_base.specs.declared.raw.RawItem.{RawItem}
 use Rattle.bern_base.specs.declared.raw.RawSum.{RawSum}
 use Rattle.bern_base.specs.declared.raw.RawRef.{RawRef}
@@ -18,10 +20,10 @@ use Rattle.job_rules.specs.declared.names.Named.TheVariants as named
 use Rattle.job_rules.specs.declared.items.Item.{Item}
 use Rattle.job_rules.specs.declared.items.Meaning.{Meaning}
 use Rattle.job_rules.specs.declared.items.Meaning.TheVariants as meaning
-use Rattle.job_rules.specs.declared.wide.WideGuard.{WideGuard}
-use Rattle.job_rules.specs.declared.wide.WideNest.{WideNest}
-use Rattle.job_rules.specs.declared.wide.WideRef.{WideRef}
-use Rattle.job_rules.specs.declared.wide.WideSpan.{WideSpan}
+use Rattle.job_rules.specs.declared.resolved.ResolvedGuard.{ResolvedGuard}
+use Rattle.job_rules.specs.declared.resolved.ResolvedNest.{ResolvedNest}
+use Rattle.job_rules.specs.declared.resolved.ResolvedRef.{ResolvedRef}
+use Rattle.job_rules.specs.declared.resolved.ResolvedSpan.{ResolvedSpan}
 use Rattle.job_rules.specs.Known.{Known, lookup}
 use Rattle.job_rules.specs.State.{State, is_known, extent_size}
 use Rattle.job_rules.specs.Sums.{Sum}
@@ -75,7 +77,7 @@ sum_of scope sum = map (item_of scope) sum.items
 abbrev pub subscript : RawRef → ℕ → RawSum
 subscript ref place = slice_index_or ref.subs place (record { items = [] })
 
-unfoldable pub ref_of : Scope → RawRef → WideRef
+unfoldable pub ref_of : Scope → RawRef → ResolvedRef
 ref_of scope ref = record {
   array = named_in scope ref.name;
   subs = length ref.subs;
@@ -83,15 +85,11 @@ ref_of scope ref = record {
   col = sum_of scope (subscript ref 1);
 }
 
-unfoldable pub span_of : Scope → RawVar → WideSpan
+unfoldable pub span_of : Scope → RawVar → ResolvedSpan
 span_of scope var = record { lo = sum_of scope var.lo; hi = sum_of scope var.hi }
 
-unfoldable pub guard_of : Scope → RawGuard → WideGuard
+unfoldable pub guard_of : Scope → RawGuard → ResolvedGuard
 guard_of scope guard = record { left = sum_of scope guard.left; right = sum_of scope guard.right }
-
--- how deep expressions may stand in one another: 16 pairs of parentheses
-abbrev pub levels : ℕ
-levels = 17
 
 -- the references of an expression, in order; `inner` are those of what stands in parentheses
 module _ (inner : RawExpr → List RawRef) where
@@ -107,25 +105,27 @@ unfoldable pub reads_of : ℕ → RawExpr → List RawRef
 reads_of zero e = []
 reads_of (suc n) e = flat_map (product_reads (reads_of n)) (out-RawExpr e).sums
 
-unfoldable pub nest_in : Scope → RawNest → WideNest
+unfoldable pub nest_in : Scope → RawNest → ResolvedNest
 nest_in scope nest = record {
   names = length scope.variables;
   spans = map (span_of scope) nest.vars;
   guards = map (guard_of scope) nest.guards;
   target = ref_of scope nest.target;
-  reads = map (ref_of scope) (reads_of levels nest.body);
+  reads = map (ref_of scope) (reads_of EXPRESSION_LEVELS nest.body);
 }
 
--- what a reader of job texts gives: sums of at most 8 items, with numbers below 2^32
+-- what a reader of job texts gives: sums of few items with small numbers
 pub record IsReadable (sum : RawSum) : Type 0 where
-  pub few : length sum.items ≤ 8
-  pub small : All (λ item. item.number < 2 ^ 32) sum.items
+  pub few : length sum.items ≤ MOST_ITEMS
+  pub small : All (λ item. item.number ≤ MOST_SUM_NUMBER) sum.items
 
 abbrev pub IsReadableRef : RawRef → Type 0
 IsReadableRef ref = All IsReadable ref.subs
 
+-- and expressions of few levels
 pub record IsReadableNest (nest : RawNest) : Type 0 where
   pub bounds : All (λ var. IsReadable var.lo × IsReadable var.hi) nest.vars
   pub guards : All (λ guard. IsReadable guard.left × IsReadable guard.right) nest.guards
   pub target : IsReadableRef nest.target
-  pub reads : All IsReadableRef (reads_of levels nest.body)
+  pub reads : All IsReadableRef (reads_of EXPRESSION_LEVELS nest.body)
+  pub shallow : IsShallow EXPRESSION_LEVELS nest.body

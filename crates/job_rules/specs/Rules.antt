@@ -2,7 +2,9 @@
 use Rattle.std.specs.Prelude.{ℕ, List, [], ◌∷◌, Option, Bool, false, not, ◌&&◌, ◌||◌, ◌==◌, nat_lt, nat_le, nat_eq, unsigned_abs, length, slice_index_or, is_none}
 use Rattle.std.specs.List.{list_any, find}
 use Rattle.bern_base.specs.declared.axes.Axis.{Axis}
-use Rattle.bern_base.specs.declared.job.Shape.{Shape}
+use Rattle.bern_base.specs.Shapes.{dims_of, is_by_row}
+use Rattle.bern_base.specs.declared.shape.Shape.{Shape}
+use Rattle.bern_base.specs.declared.limits.TheConstants.{EXPRESSION_LEVELS, MOST_ARRAYS, MOST_EXTENTS, MOST_FORMATS, MOST_NESTS, MOST_OFFSET, MOST_OFFSETS, MOST_PLACES, MOST_SIDE}
 use Rattle.bern_base.specs.declared.raw.Form.{Form}
 use Rattle.bern_base.specs.declared.raw.Form.TheVariants as form
 use Rattle.bern_base.specs.declared.raw.RawKind.{RawKind}
@@ -14,14 +16,15 @@ use Rattle.bern_base.specs.declared.raw.RawVar.{RawVar}
 use Rattle.bern_base.specs.declared.refusal.Rule.{Rule}
 use Rattle.bern_base.specs.declared.refusal.Rule.TheVariants as r
 use Rattle.job_rules.specs.declared.names.Named.{Named}
-use Rattle.job_rules.specs.declared.wide.WideNest.{WideNest}
+use Rattle.job_rules.specs.declared.resolved.ResolvedNest.{ResolvedNest}
 use Rattle.job_rules.specs.Known.{Known, lookup}
-use Rattle.job_rules.specs.State.{State, is_known, is_extent, is_place, is_format, is_array, number_of, place_extent, shape_at, shape_dims, is_by_row, is_col, axis_place}
-use Rattle.job_rules.specs.Looked.{scope_of, nest_in, levels}
+use Rattle.job_rules.specs.State.{State, is_known, is_extent, is_place, is_format, is_array, number_of, place_extent, shape_at, axis_place}
+use Rattle.job_model.specs.Accepted.{is_col}
+use Rattle.job_rules.specs.Looked.{scope_of, nest_in}
 use Rattle.job_rules.specs.Nests as n
 use Rattle.job_rules.specs.Terms.{terms_of, has_too_many}
 
-abbrev pub looked : State → RawNest → WideNest
+abbrev pub looked : State → RawNest → ResolvedNest
 looked state nest = nest_in (scope_of state nest) nest
 
 -- a loop variable has a declared name
@@ -74,7 +77,7 @@ names_other_kind state (form.Print name) = not (is_array (lookup name state.name
 
 -- the shape has so many extents, and columns are not dealt where only rows can be
 unfoldable pub fits_shape : Shape → ℕ → Bool → Bool
-fits_shape shape extents by_col = shape_dims shape == extents && not (by_col && (nat_eq extents 1 || is_by_row shape))
+fits_shape shape extents by_col = dims_of shape == extents && not (by_col && (nat_eq extents 1 || is_by_row shape))
 
 -- J6: the format has another number of dimensions, or the split axis does not fit
 abbrev pub format_does_not_fit : State → Form → Bool
@@ -134,30 +137,30 @@ abbrev pub reads_elsewhere : State → Form → Bool
 reads_elsewhere state (form.Nest nest) = n.reads_elsewhere state.job (looked state nest)
 reads_elsewhere state other = false
 
--- sizes and blocks are 1 to 4,194,304
+-- sizes and blocks are 1 to `MOST_SIDE`
 abbrev pub is_no_size : ℕ → Bool
-is_no_size size = nat_eq size 0 || nat_lt 4194304 size
+is_no_size size = nat_eq size 0 || nat_lt MOST_SIDE size
 
 abbrev pub kind_past_limit : RawKind → Bool
 kind_past_limit (kind.Cyclic block) = is_no_size block
 kind_past_limit other = false
 
--- at most 16 offsets, each at most 4,194,303 in size
+-- at most so many offsets, each at most so large
 unfoldable pub shape_past_limit : RawShape → Bool
-shape_past_limit (shape.Diagonal offsets) = nat_lt 16 (length offsets) || list_any (λ offset. nat_lt 4194303 (unsigned_abs offset)) offsets
+shape_past_limit (shape.Diagonal offsets) = nat_lt MOST_OFFSETS (length offsets) || list_any (λ offset. nat_lt MOST_OFFSET (unsigned_abs offset)) offsets
 shape_past_limit other = false
 
 unfoldable pub has_too_many_terms : RawNest → Bool
-has_too_many_terms nest = has_too_many (terms_of levels nest.body)
+has_too_many_terms nest = has_too_many (terms_of EXPRESSION_LEVELS nest.body)
 
 -- J15: a quantity is past its limit
 abbrev pub passes_limit : State → Form → Bool
-passes_limit state (form.Extent name size) = is_no_size size || nat_le 32 (length state.job.extents)
-passes_limit state (form.Place name extent dealt) = kind_past_limit dealt || nat_le 16 (length state.job.places)
-passes_limit state (form.Format name how) = shape_past_limit how || nat_le 32 (length state.job.formats)
-passes_limit state (form.Array name extents format axis place file) = nat_le 16 (length state.job.arrays)
+passes_limit state (form.Extent name size) = is_no_size size || nat_le MOST_EXTENTS (length state.job.extents)
+passes_limit state (form.Place name extent dealt) = kind_past_limit dealt || nat_le MOST_PLACES (length state.job.places)
+passes_limit state (form.Format name how) = shape_past_limit how || nat_le MOST_FORMATS (length state.job.formats)
+passes_limit state (form.Array name extents format axis place file) = nat_le MOST_ARRAYS (length state.job.arrays)
 passes_limit state (form.Nest nest) =
-    nat_le 32 (length state.job.nests) || n.is_too_wide (n.ranges_of (looked state nest)) (looked state nest) || has_too_many_terms nest
+    nat_le MOST_NESTS (length state.job.nests) || n.is_too_wide (n.ranges_of (looked state nest)) (looked state nest) || has_too_many_terms nest
 passes_limit state (form.Print name) = false
 
 -- the rules that a line with a form may break, in their order

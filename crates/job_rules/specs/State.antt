@@ -6,19 +6,19 @@ use Rattle.bern_base.specs.declared.axes.Axis.TheVariants as axis
 use Rattle.bern_base.specs.declared.job.ExtentDecl.{ExtentDecl}
 use Rattle.bern_base.specs.declared.job.FormatDecl.{FormatDecl}
 use Rattle.bern_base.specs.declared.job.PlaceDecl.{PlaceDecl}
-use Rattle.bern_base.specs.declared.job.Shape.{Shape}
-use Rattle.bern_base.specs.declared.job.Shape.TheVariants as shape
+use Rattle.bern_base.specs.declared.shape.Shape.{Shape}
+use Rattle.bern_base.specs.declared.shape.Shape.TheVariants as shape
 use Rattle.job_rules.specs.declared.names.Named.{Named}
 use Rattle.job_rules.specs.declared.names.Named.TheVariants as named
-use Rattle.job_rules.specs.declared.walk.Walk.{Walk}
+use Rattle.job_rules.specs.declared.draft.Draft.{Draft}
 use Rattle.job_rules.specs.Known.{Known, lookup}
 
 abbrev pub State : Type 0
-State = Walk
+State = Draft
 
 -- before the first line nothing is known
 abbrev pub start : State
-start = record { names = []; job = record { extents = []; places = []; formats = []; arrays = []; nests = []; prints = [] } }
+start = record { names = []; job = record { extents = []; places = []; formats = []; arrays = []; nests = []; turns = []; prints = [] } }
 
 abbrev pub is_known : List ℕ → Known → Bool
 is_known name known = is_some (lookup name known)
@@ -59,31 +59,6 @@ place_extent places number = option_map_or (λ p. p.extent) (slice_get places nu
 
 abbrev pub shape_at : List FormatDecl → ℕ → Shape
 shape_at formats number = option_map_or (λ f. f.shape) (slice_get formats number) shape.DenseOne
-
--- how many extents an array of the shape has
-abbrev pub shape_dims : Shape → ℕ
-shape_dims shape.DenseOne = 1
-shape_dims shape.PackedOne = 1
-shape_dims shape.ListOne = 1
-shape_dims other = 2
-
--- all levels are dense, so every element is stored
-abbrev pub is_all_dense : Shape → Bool
-is_all_dense shape.DenseOne = true
-is_all_dense (shape.DenseDense outer) = true
-is_all_dense other = false
-
--- only rows can be dealt: the shape has an order of its own, or is stored around its rows
-abbrev pub is_by_row : Shape → Bool
-is_by_row shape.Jagged = true
-is_by_row (shape.Diagonal offsets) = true
-is_by_row (shape.Permute file) = true
-is_by_row other = false
-
-abbrev pub is_col : Axis → Bool
-is_col axis.Row = false
-is_col axis.Col = true
-is_col axis.Both = false
 
 -- the place of an axis among an array's extents and a reference's subscripts
 abbrev pub axis_place : Axis → ℕ

@@ -3,6 +3,7 @@ use Rattle.std.specs.Prelude.{ℕ, ◌^◌, List, [], ◌∷◌, ◌++◌, Optio
 use Rattle.std.specs.List.{fold, list_any, list_all, All}
 use Rattle.std.specs.Ordering.{int_eq}
 use Rattle.bern_base.specs.Affine.{AffineForm}
+use Rattle.bern_base.specs.declared.limits.TheConstants.{MOST_COEFFICIENT, MOST_CONSTANT, MOST_ITEMS}
 use Rattle.job_rules.specs.declared.names.Named.TheVariants as named
 use Rattle.job_rules.specs.declared.items.Item.{Item}
 use Rattle.job_rules.specs.declared.items.Meaning.{Meaning}
@@ -18,7 +19,7 @@ item_limit (meaning.Name (named.Extent e)) = 2 ^ 64
 item_limit other = 2 ^ 32
 
 pub record IsSmall (sum : Sum) : Type 0 where
-  pub few : length sum ≤ 8
+  pub few : length sum ≤ MOST_ITEMS
   pub small : All (λ item. unsigned_abs item.number < item_limit item.meaning) sum
 
 abbrev pub IsSmallRange : Range → Type 0
@@ -51,12 +52,12 @@ agrees_at a b item = elim (variable_of item.meaning) [ None ↦ true | Some v �
 unfoldable pub same_form : Sum → Sum → Bool
 same_form a b = int_eq (constant_of a) (constant_of b) && list_all (agrees_at a b) a && list_all (agrees_at a b) b
 
--- coefficients are at most 2^20 in size, and constants at most 2^31
+-- the coefficients and the constant are within their limits
 abbrev pub is_within_at : Sum → Item → Bool
-is_within_at sum item = elim (variable_of item.meaning) [ None ↦ true | Some v ↦ nat_le (unsigned_abs (coefficient_of v sum)) 1048576 ]
+is_within_at sum item = elim (variable_of item.meaning) [ None ↦ true | Some v ↦ nat_le (unsigned_abs (coefficient_of v sum)) MOST_COEFFICIENT ]
 
 unfoldable pub is_within : Sum → Bool
-is_within sum = nat_le (unsigned_abs (constant_of sum)) 2147483648 && list_all (is_within_at sum) sum
+is_within sum = nat_le (unsigned_abs (constant_of sum)) MOST_CONSTANT && list_all (is_within_at sum) sum
 
 -- the variables of a sum, each once
 abbrev pub add_variable : List ℕ → Item → List ℕ

@@ -1,15 +1,13 @@
 -- How many terms an expression has, and how many references each of them.
-use Rattle.std.specs.Prelude.{ℕ, ◌+◌, List, [], ◌∷◌, Bool, map, zero, suc, nat_lt, ◌||◌, length, min, max}
+use Rattle.std.specs.Prelude.{ℕ, ◌+◌, List, [], ◌∷◌, Bool, zero, suc, nat_lt, ◌||◌, length, min, max}
 use Rattle.job_rules.specs.declared.terms.Size.{Size}
 use Rattle.std.specs.List.{fold, flat_map, list_any}
+use Rattle.bern_base.specs.declared.limits.TheConstants.{MOST_REFERENCES, MOST_TERMS}
+use Rattle.job_model.specs.References.{joined}
 use Rattle.bern_base.specs.declared.raw.RawExpr.{RawExpr, out-RawExpr}
 use Rattle.bern_base.specs.declared.raw.RawProduct.{RawProduct}
 use Rattle.bern_base.specs.declared.raw.RawFactor.{RawFactor}
 use Rattle.bern_base.specs.declared.raw.RawFactor.TheVariants as factor
-
--- all choices of one term from each side, the left one changing slowest: the references of both
-abbrev pub choices : List ℕ → List ℕ → List ℕ
-choices left right = flat_map (λ a. map (λ b. a + b) right) left
 
 -- for each term, in order, how many references it has; `inner` is that list for what stands in parentheses
 module _ (inner : RawExpr → List ℕ) where
@@ -20,15 +18,15 @@ module _ (inner : RawExpr → List ℕ) where
 
   -- a product of no factors would be one term without references
   abbrev pub product_terms : RawProduct → List ℕ
-  product_terms product = fold (λ terms f. choices terms (factor_terms f)) (0 ∷ []) product.factors
+  product_terms product = fold (λ terms f. joined terms (factor_terms f)) (0 ∷ []) product.factors
 
 unfoldable pub terms_of : ℕ → RawExpr → List ℕ
 terms_of zero e = []
 terms_of (suc n) e = flat_map (product_terms (terms_of n)) (out-RawExpr e).sums
 
--- more than 16 terms, or more than 4 references in one of them
+-- too many terms, or too many references in one of them
 abbrev pub has_too_many : List ℕ → Bool
-has_too_many terms = nat_lt 16 (length terms) || list_any (nat_lt 4) terms
+has_too_many terms = nat_lt MOST_TERMS (length terms) || list_any (nat_lt MOST_REFERENCES) terms
 
 -- the most references of a term
 abbrev pub most : List ℕ → ℕ
@@ -37,4 +35,4 @@ most (term ∷ terms) = max term (most terms)
 
 -- how many terms there are and the most references of one, where past the limits one number serves for all
 abbrev pub size_of : List ℕ → Size
-size_of terms = record { terms = min 17 (length terms); most = min 5 (most terms) }
+size_of terms = record { terms = min (MOST_TERMS + 1) (length terms); most = min (MOST_REFERENCES + 1) (most terms) }

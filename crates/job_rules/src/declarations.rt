@@ -1,29 +1,26 @@
 ghost use Rattle.std.specs.Prelude.{◌≡◌, ◌<◌, ◌≤◌, true, false, nat_lt, unsigned_abs, IfOk, length};
 ghost use Rattle.std.specs.List.{list_any, All};
 ghost use Rattle.job_rules.specs.Known.{Known, lookup};
-ghost use Rattle.job_rules.specs.State.{number_of, extent_size, place_extent, shape_dims, shape_at, is_by_row, axis_place};
+ghost use Rattle.job_rules.specs.State.{number_of, extent_size, place_extent, shape_at, axis_place};
 ghost use Rattle.job_rules.specs.Rules.{is_no_size, kind_past_limit, shape_past_limit, is_unknown_in, is_no_extent_in, some_unknown, some_no_extent, fits_shape, extent_on};
 ghost use Rattle.job_rules.specs.After.{kind_of, shape_of, rows_of, cols_of};
 
 use crate::names::Names;
 use crate::tables::{is_col, is_extent, number_of};
-use bern_base::{Axis, Checked, Items, NoMemory, PlaceKind, RawKind, RawShape, Shape, Text};
+use bern_base::{
+    Axis, Checked, Items, MOST_OFFSET, MOST_OFFSETS, MOST_SIDE, NoMemory, PlaceKind, RawKind,
+    RawShape, Shape, Text,
+};
 use std::alloc::Global;
 
-/// The largest size of an extent, and the largest block.
-const SIZE: u64 = 4_194_304;
-
-const OFFSETS: usize = 16;
-/// The largest size of an offset.
-const OFFSET: u128 = 4_194_303;
-
-/// Whether this is no size: 0 or past the limit.
+/// J15: whether this is no size, 0 or past the limit.
 pub(crate) fn is_no_size(size: u64) -> bool
     ensures { result ≡ is_no_size size }
 {
-    size == 0 || size > SIZE
+    size == 0 || size > MOST_SIDE as u64
 }
 
+/// J15: whether the block of a place is past its limit.
 pub(crate) fn kind_past_limit(kind: &RawKind) -> bool
     ensures { result ≡ kind_past_limit kind.now }
 {
@@ -33,22 +30,28 @@ pub(crate) fn kind_past_limit(kind: &RawKind) -> bool
     }
 }
 
+/// J15: whether a format has too many offsets, or one too large.
 #[tactic(auto, unfolding(crate::specs::Rules::shape_past_limit))]
 pub(crate) fn shape_past_limit(shape: &RawShape) -> bool
     ensures { result ≡ shape_past_limit shape.now }
 {
     match shape {
-        RawShape::Diagonal(offsets) => { offsets.len() > OFFSETS || some_far(offsets.as_slice()) }
+        RawShape::Diagonal(offsets) => {
+            offsets.len() > MOST_OFFSETS || some_far(offsets.as_slice())
+        }
         _ => false,
     }
 }
 
 fn some_far(offsets: &[i128]) -> bool
-    ensures { result ≡ list_any (λ offset. nat_lt 4194303 (unsigned_abs offset)) offsets.now }
+    ensures { result ≡ list_any (λ offset. nat_lt MOST_OFFSET (unsigned_abs offset)) offsets.now }
 {
-    offsets.iter().any(|offset| offset.unsigned_abs() > OFFSET)
+    offsets
+        .iter()
+        .any(|offset| offset.unsigned_abs() > MOST_OFFSET as u128)
 }
 
+/// J4: whether a name is not known.
 #[tactic(auto, unfolding(crate::specs::Rules::some_unknown))]
 pub(crate) fn some_unknown(names: &Names<'_>, wanted: &[Text]) -> bool
     ensures { result ≡ some_unknown names.now wanted.now }
@@ -62,6 +65,7 @@ fn is_unknown(names: &Names<'_>, name: &Text) -> bool
     names.find(name.as_bytes()).is_none()
 }
 
+/// J5: whether a name stands for no extent.
 #[tactic(auto, unfolding(crate::specs::Rules::some_no_extent))]
 pub(crate) fn some_no_extent(names: &Names<'_>, wanted: &[Text]) -> bool
     ensures { result ≡ some_no_extent names.now wanted.now }
@@ -75,7 +79,7 @@ fn is_no_extent(names: &Names<'_>, name: &Text) -> bool
     !is_extent(names.find(name.as_bytes()))
 }
 
-/// Whether the format of a number suits an array of so many extents.
+/// J6: whether the format of a number suits an array of so many extents.
 #[tactic(auto, unfolding(crate::specs::Rules::fits_shape))]
 pub(crate) fn shape_fits(job: &Checked, format: u32, extents: usize, by_col: bool) -> bool
     ensures fits { result ≡ fits_shape (shape_at job.now.formats format) extents by_col }
@@ -92,29 +96,10 @@ fn suits(shape: &Shape, extents: usize, by_col: bool) -> bool
     ensures fits { result ≡ fits_shape shape.now extents by_col }
     ensures few { result ≡ true → extents ≤ 2 }
 {
-    shape_dims(shape) == extents && !(by_col && (extents == 1 || is_by_row(shape)))
+    shape.dims() as usize == extents && !(by_col && (extents == 1 || shape.is_by_row()))
 }
 
-fn shape_dims(shape: &Shape) -> usize
-    ensures dims { result ≡ shape_dims shape.now }
-    ensures few { result ≤ 2 }
-{
-    match shape {
-        Shape::DenseOne | Shape::PackedOne | Shape::ListOne => 1,
-        _ => 2,
-    }
-}
-
-fn is_by_row(shape: &Shape) -> bool
-    ensures { result ≡ is_by_row shape.now }
-{
-    match shape {
-        Shape::Jagged | Shape::Diagonal(_) | Shape::Permute(_) => true,
-        _ => false,
-    }
-}
-
-/// The number of the extent on an axis.
+/// J7: the number of the extent on the axis along which an array is split.
 #[tactic(auto, unfolding(crate::specs::Rules::extent_on))]
 pub(crate) fn extent_on(names: &Names<'_>, extents: &[Text], axis: Axis) -> u32
     ensures { result ≡ extent_on names.now extents.now axis }
@@ -131,7 +116,7 @@ fn axis_place(axis: Axis) -> usize
     if is_col(axis) { 1 } else { 0 }
 }
 
-/// The number of the extent that a place deals.
+/// J7: the number of the extent that a place deals.
 pub(crate) fn place_extent(job: &Checked, place: u32) -> u32
     ensures { result ≡ place_extent job.now.places place }
 {
@@ -214,7 +199,7 @@ pub(crate) fn checked_shape(alloc: Global, shape: &RawShape) -> Result<Shape, No
 }
 
 fn checked_offsets(alloc: Global, offsets: &[i128]) -> Result<Items<i64>, NoMemory>
-    requires { All (λ offset. unsigned_abs offset ≤ 4194303) offsets.now }
+    requires { All (λ offset. unsigned_abs offset ≤ MOST_OFFSET) offsets.now }
     ensures { IfOk result (λ checked. checked ≡ offsets.now) }
 {
     let mut checked = Items::from_vec(Vec::with_capacity(alloc, offsets.len())?);

@@ -2,6 +2,7 @@
 #![tactic(auto)]
 
 mod declarations;
+mod draft;
 mod expressions;
 mod items;
 mod job;
@@ -11,16 +12,13 @@ mod names;
 mod narrow;
 mod nest_rules;
 mod nests;
-mod points;
 mod ranges;
+mod resolved;
 mod scope;
 mod stop;
 mod sums;
 mod tables;
 mod terms;
-mod walk;
-mod wide;
 
 pub use job::{CheckError, check_job};
-pub use laws::{a_text_has_one_answer, accepted_jobs_fit};
-pub use points::subscripts_leave_at_points;
+pub use laws::{a_text_has_one_answer, accepted_texts_keep_the_rules, subscripts_leave_at_points};

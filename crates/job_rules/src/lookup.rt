@@ -2,13 +2,10 @@ ghost use Rattle.std.specs.Prelude.{◌≡◌, ◌++◌, [], map, IfOk, OnOk, le
 ghost use Rattle.std.specs.List.{All};
 ghost use Rattle.job_rules.specs.Looked.{IsReadableRef, IsReadableNest, ref_of, reads_of, product_reads, factor_reads, nest_in};
 
+use crate::resolved::{ResolvedNest, ResolvedRef};
 use crate::scope::NestScope;
-use crate::wide::{WideNest, WideRef};
-use bern_base::{Items, NoMemory, RawExpr, RawFactor, RawNest, RawProduct};
+use bern_base::{EXPRESSION_LEVELS, Items, NoMemory, RawExpr, RawFactor, RawNest, RawProduct};
 use std::alloc::Global;
-
-/// How deep expressions may stand in one another: 16 pairs of parentheses.
-pub(crate) const LEVELS: u32 = 17;
 
 /// A nest with its names looked up.
 #[tactic(auto, unfolding(crate::specs::Looked::nest_in))]
@@ -16,16 +13,16 @@ pub(crate) fn look_up(
     alloc: Global,
     scope: &NestScope<'_, '_>,
     nest: &RawNest,
-) -> Result<WideNest, NoMemory>
+) -> Result<ResolvedNest, NoMemory>
     requires { IsReadableNest nest.now }
-    ensures { IfOk result (λ wide. wide ≡ nest_in scope.now nest.now) }
+    ensures { IfOk result (λ resolved. resolved ≡ nest_in scope.now nest.now) }
 {
     let spans = scope.spans(alloc, nest.vars.as_slice())?;
     let guards = scope.guards(alloc, nest.guards.as_slice())?;
     let target = scope.reference(alloc, &nest.target)?;
     let mut reads = Items::new(alloc);
-    add_reads(alloc, scope, LEVELS, &nest.body, &mut reads)?;
-    Ok(WideNest {
+    add_reads(alloc, scope, EXPRESSION_LEVELS, &nest.body, &mut reads)?;
+    Ok(ResolvedNest {
         names: scope.variables.len(),
         spans,
         guards,
@@ -42,7 +39,7 @@ fn add_reads(
     scope: &NestScope<'_, '_>,
     levels: u32,
     expr: &RawExpr,
-    reads: &mut Items<WideRef>,
+    reads: &mut Items<ResolvedRef>,
 ) -> Result<(), NoMemory>
     requires { All IsReadableRef (reads_of levels expr.now) }
     ensures { OnOk result (reads.new ≡ reads.old ++ map (ref_of scope.now) (reads_of levels expr.now)) }
@@ -62,7 +59,7 @@ fn add_product_reads(
     scope: &NestScope<'_, '_>,
     levels: u32,
     product: &RawProduct,
-    reads: &mut Items<WideRef>,
+    reads: &mut Items<ResolvedRef>,
 ) -> Result<(), NoMemory>
     requires { All IsReadableRef (product_reads (reads_of levels) product.now) }
     ensures { OnOk result (reads.new ≡ reads.old ++ map (ref_of scope.now) (product_reads (reads_of levels) product.now)) }
@@ -79,7 +76,7 @@ fn add_factor_reads(
     scope: &NestScope<'_, '_>,
     levels: u32,
     factor: &RawFactor,
-    reads: &mut Items<WideRef>,
+    reads: &mut Items<ResolvedRef>,
 ) -> Result<(), NoMemory>
     requires { All IsReadableRef (factor_reads (reads_of levels) factor.now) }
     ensures { OnOk result (reads.new ≡ reads.old ++ map (ref_of scope.now) (factor_reads (reads_of levels) factor.now)) }

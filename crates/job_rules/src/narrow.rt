@@ -1,17 +1,16 @@
-ghost use Rattle.std.specs.Prelude.{◌≡◌, ◌≤◌, ◌∷◌, [], true, IfOk, map, if◌then◌else◌, unsigned_abs, ◌-ℤ◌};
+ghost use Rattle.std.specs.Prelude.{◌≡◌, ◌≤◌, ◌*◌, true, IfOk, map, unsigned_abs, ◌-ℤ◌};
 ghost use Rattle.std.specs.List.{All};
 ghost use Rattle.job_rules.specs.Sums.{is_within, constant_of, coefficient_of};
-ghost use Rattle.job_rules.specs.Looked.{IsReadable, IsReadableRef, reads_of, product_reads, factor_reads, sum_of};
-ghost use Rattle.job_rules.specs.After.{narrow_of, narrow_difference, narrow_ref, checked_ref, checked_guard, checked_span, IsNear, checked_factor, checked_product, checked_expr};
+ghost use Rattle.job_rules.specs.Looked.{IsReadable, IsReadableRef};
+ghost use Rattle.job_rules.specs.After.{narrow_of, narrow_difference, narrow_ref, checked_ref, checked_guard, checked_span, IsNear};
 
-use crate::lookup::LEVELS;
+use crate::resolved::ResolvedRef;
 use crate::scope::NestScope;
 use crate::sums::Sum;
 use crate::tables::number_of;
-use crate::wide::WideRef;
 use bern_base::{
-    Affine, Expr, Factor, Guard, Items, NoMemory, Product, RawExpr, RawFactor, RawGuard,
-    RawProduct, RawRef, RawVar, Ref, Span, Text, Val,
+    Affine, Guard, Items, MOST_BOUND, MOST_COEFFICIENT, MOST_CONSTANT, NoMemory, RawGuard, RawRef,
+    RawVar, Ref, Span, Text,
 };
 use std::alloc::Global;
 
@@ -37,17 +36,17 @@ pub(crate) fn narrow(sum: &Sum) -> Affine
 fn narrow_constant(sum: &Sum) -> i64
     requires { is_within sum.now ≡ true }
     ensures value { result ≡ constant_of sum.now }
-    ensures small { unsigned_abs result ≤ 2147483648 }
+    ensures small { unsigned_abs result ≤ MOST_CONSTANT }
 {
-    small_cast(sum.constant(), 2_147_483_648)
+    small_cast(sum.constant(), MOST_CONSTANT)
 }
 
 fn narrow_coefficient(sum: &Sum, variable: usize) -> i64
     requires { is_within sum.now ≡ true }
     ensures value { result ≡ coefficient_of variable sum.now }
-    ensures small { unsigned_abs result ≤ 1048576 }
+    ensures small { unsigned_abs result ≤ MOST_COEFFICIENT }
 {
-    small_cast(sum.coefficient(variable), 1_048_576)
+    small_cast(sum.coefficient(variable), MOST_COEFFICIENT)
 }
 
 fn small_cast(number: i128, limit: u32) -> i64
@@ -68,12 +67,12 @@ pub(crate) fn checked_ref(
     requires { IsReadableRef reference.now }
     ensures { IfOk result (λ checked. checked ≡ checked_ref scope.now reference.now) }
 {
-    let wide = scope.reference(alloc, reference)?;
-    Ok(narrow_ref(&wide))
+    let resolved = scope.reference(alloc, reference)?;
+    Ok(narrow_ref(&resolved))
 }
 
 #[tactic(auto, unfolding(crate::specs::After::narrow_ref))]
-fn narrow_ref(reference: &WideRef) -> Ref
+fn narrow_ref(reference: &ResolvedRef) -> Ref
     ensures { result ≡ narrow_ref reference.now }
 {
     Ref {
@@ -95,8 +94,8 @@ fn checked_span(alloc: Global, scope: &NestScope<'_, '_>, var: &RawVar) -> Resul
     let hi = scope.sum(alloc, &var.hi)?;
     Ok(Span {
         name,
-        lo: small_cast(lo.constant(), 4_194_304),
-        hi: small_cast(hi.constant(), 4_194_304),
+        lo: small_cast(lo.constant(), MOST_BOUND),
+        hi: small_cast(hi.constant(), MOST_BOUND),
     })
 }
 
@@ -176,7 +175,7 @@ fn constant_difference(left: &Sum, right: &Sum) -> i64
     requires left { is_within left.now ≡ true }
     requires right { is_within right.now ≡ true }
     ensures value { result ≡ constant_of left.now -ℤ constant_of right.now }
-    ensures small { unsigned_abs result ≤ 4294967296 }
+    ensures small { unsigned_abs result ≤ 2 * MOST_CONSTANT }
 {
     narrow_constant(left) - narrow_constant(right)
 }
@@ -185,7 +184,7 @@ fn coefficient_difference(left: &Sum, right: &Sum, variable: usize) -> i64
     requires left { is_within left.now ≡ true }
     requires right { is_within right.now ≡ true }
     ensures value { result ≡ coefficient_of variable left.now -ℤ coefficient_of variable right.now }
-    ensures small { unsigned_abs result ≤ 2097152 }
+    ensures small { unsigned_abs result ≤ 2 * MOST_COEFFICIENT }
 {
     narrow_coefficient(left, variable) - narrow_coefficient(right, variable)
 }

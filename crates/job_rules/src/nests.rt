@@ -1,4 +1,4 @@
-ghost use Rattle.std.specs.Prelude.{◌≡◌, None, false, IfOk, OnOk, IfErr};
+ghost use Rattle.std.specs.Prelude.{◌≡◌, ◌<◌, None, false, length, IfOk, OnOk, IfErr};
 ghost use Rattle.std.specs.List.{All, list_any};
 ghost use Rattle.bern_base.specs.declared.raw.Form.TheVariants as form;
 ghost use Rattle.job_rules.specs.State.{is_known};
@@ -8,8 +8,9 @@ ghost use Rattle.job_rules.specs.Nests.{ranges_of, is_too_wide};
 ghost use Rattle.job_rules.specs.After.{checked_nest, IsNear};
 ghost use Rattle.job_rules.specs.First.{Joins, StopsAt};
 
+use crate::draft::Draft;
 use crate::expressions::checked_expr;
-use crate::lookup::{LEVELS, look_up};
+use crate::lookup::look_up;
 use crate::names::Names;
 use crate::narrow::{checked_guards, checked_ref, checked_spans};
 use crate::nest_rules::{
@@ -17,17 +18,14 @@ use crate::nest_rules::{
     is_one_to_one, is_too_wide, leaves_box, reads_elsewhere, reads_target_otherwise,
 };
 use crate::ranges::Ranges;
+use crate::resolved::ResolvedNest;
 use crate::scope::{NestScope, variables};
 use crate::stop::Stop;
 use crate::terms::has_too_many_terms;
-use crate::walk::Walk;
-use crate::wide::WideNest;
-use bern_base::{Checked, Nest, NoMemory, RawNest, RawVar, Rule};
+use bern_base::{Checked, EXPRESSION_LEVELS, MOST_NESTS, Nest, NoMemory, RawNest, RawVar, Rule};
 use std::alloc::Global;
 
-const NESTS: usize = 32;
-
-/// Whether a variable has a declared name.
+/// J3: whether a variable has a declared name.
 #[tactic(auto, unfolding(crate::specs::Rules::hides_name))]
 fn hides_name(names: &Names<'_>, vars: &[RawVar]) -> bool
     ensures { result ≡ hides_name names.now vars.now }
@@ -42,55 +40,64 @@ fn is_known(names: &Names<'_>, var: &RawVar) -> bool
 }
 
 /// Tries the rules in their order on a nest with its names looked up.
-fn try_rules(alloc: Global, walk: &Walk<'_>, nest: &RawNest, wide: &WideNest) -> Result<(), Stop>
-    requires { wide.now ≡ looked walk.now nest.now }
-    ensures ok { OnOk result (broken_rule walk.now (form.Nest nest.now) ≡ None) }
-    ensures near { OnOk result (is_too_wide (ranges_of wide.now) wide.now ≡ false) }
-    ensures err { IfErr result (StopsAt (broken_rule walk.now (form.Nest nest.now))) }
+fn try_rules(
+    alloc: Global,
+    draft: &Draft<'_>,
+    nest: &RawNest,
+    resolved: &ResolvedNest,
+) -> Result<(), Stop>
+    requires { resolved.now ≡ looked draft.now nest.now }
+    ensures ok { OnOk result (broken_rule draft.now (form.Nest nest.now) ≡ None) }
+    ensures few { OnOk result (length draft.now.job.nests < MOST_NESTS) }
+    ensures near { OnOk result (is_too_wide (ranges_of resolved.now) resolved.now ≡ false) }
+    ensures err { IfErr result (StopsAt (broken_rule draft.now (form.Nest nest.now))) }
 {
-    if hides_name(&walk.names, nest.vars.as_slice()) {
+    if hides_name(&draft.names, nest.vars.as_slice()) {
         return Err(Stop::Broken(Rule::J3));
     }
-    if has_unknown(wide) {
+    if has_unknown(resolved) {
         return Err(Stop::Broken(Rule::J4));
     }
-    if has_other_kind(wide) {
+    if has_other_kind(resolved) {
         return Err(Stop::Broken(Rule::J5));
     }
-    if has_variable_twice(wide) {
+    if has_variable_twice(resolved) {
         return Err(Stop::Broken(Rule::J8));
     }
-    if has_other_subscripts(&walk.job, wide) {
+    if has_other_subscripts(&draft.job, resolved) {
         return Err(Stop::Broken(Rule::J9));
     }
-    let ranges = ranges_of(alloc, wide)?;
-    if leaves_box(alloc, &walk.job, &ranges, wide)? {
+    let ranges = ranges_of(alloc, resolved)?;
+    if leaves_box(alloc, &draft.job, &ranges, resolved)? {
         return Err(Stop::Broken(Rule::J10));
     }
-    if has_sparse_target(&walk.job, wide) {
+    if has_sparse_target(&draft.job, resolved) {
         return Err(Stop::Broken(Rule::J11));
     }
-    let one_to_one = is_one_to_one(&ranges, wide);
-    if reads_target_otherwise(one_to_one, wide) {
+    let one_to_one = is_one_to_one(&ranges, resolved);
+    if reads_target_otherwise(one_to_one, resolved) {
         return Err(Stop::Broken(Rule::J12));
     }
     if nest.replace && !one_to_one {
         return Err(Stop::Broken(Rule::J13));
     }
-    if reads_elsewhere(&walk.job, wide) {
+    if reads_elsewhere(&draft.job, resolved) {
         return Err(Stop::Broken(Rule::J14));
     }
-    if walk.job.nests.len() >= NESTS || is_too_wide(&ranges, wide) || has_too_many_terms(nest) {
+    if draft.job.nests.len() >= MOST_NESTS
+        || is_too_wide(&ranges, resolved)
+        || has_too_many_terms(nest)
+    {
         return Err(Stop::Broken(Rule::J15));
     }
     Ok(())
 }
 
 #[tactic(auto, unfolding(crate::specs::Nests::ranges_of))]
-fn ranges_of(alloc: Global, wide: &WideNest) -> Result<Ranges, NoMemory>
-    ensures { IfOk result (λ ranges. ranges ≡ ranges_of wide.now) }
+fn ranges_of(alloc: Global, resolved: &ResolvedNest) -> Result<Ranges, NoMemory>
+    ensures { IfOk result (λ ranges. ranges ≡ ranges_of resolved.now) }
 {
-    Ranges::of(alloc, wide.spans.as_slice())
+    Ranges::of(alloc, resolved.spans.as_slice())
 }
 
 /// A nest with numbers for names.
@@ -107,7 +114,7 @@ fn numbered(
     let vars = checked_spans(alloc, scope, nest.vars.as_slice())?;
     let guards = checked_guards(alloc, scope, nest.guards.as_slice())?;
     let target = checked_ref(alloc, scope, &nest.target)?;
-    let body = checked_expr(alloc, scope, LEVELS, &nest.body)?;
+    let body = checked_expr(alloc, scope, EXPRESSION_LEVELS, &nest.body)?;
     Ok(Nest {
         line,
         vars,
@@ -119,35 +126,39 @@ fn numbered(
 }
 
 /// The nest, where it breaks no rule.
-fn checked(alloc: Global, walk: &Walk<'_>, line: u64, nest: &RawNest) -> Result<Nest, Stop>
+fn checked(alloc: Global, draft: &Draft<'_>, line: u64, nest: &RawNest) -> Result<Nest, Stop>
     requires { IsReadableNest nest.now }
-    ensures ok { IfOk result (λ checked. (broken_rule walk.now (form.Nest nest.now) ≡ None) × (checked ≡ checked_nest (scope_of walk.now nest.now) line nest.now)) }
-    ensures err { IfErr result (StopsAt (broken_rule walk.now (form.Nest nest.now))) }
+    ensures ok { IfOk result (λ checked.
+        (broken_rule draft.now (form.Nest nest.now) ≡ None) × (checked ≡ checked_nest (scope_of draft.now nest.now) line nest.now)) }
+    ensures few { IfOk result (λ checked. length draft.now.job.nests < MOST_NESTS) }
+    ensures err { IfErr result (StopsAt (broken_rule draft.now (form.Nest nest.now))) }
 {
     let variables = variables(alloc, nest.vars.as_slice())?;
     let scope = NestScope {
-        names: &walk.names,
+        names: &draft.names,
         variables: &variables,
-        extents: walk.job.extents.as_slice(),
+        extents: draft.job.extents.as_slice(),
     };
-    let wide = look_up(alloc, &scope, nest)?;
-    try_rules(alloc, walk, nest, &wide)?;
+    let resolved = look_up(alloc, &scope, nest)?;
+    try_rules(alloc, draft, nest, &resolved)?;
     let nest = numbered(alloc, &scope, line, nest)?;
     Ok(nest)
 }
 
-/// `doany ..`.
+/// `doany ..`, which is one more nest and the next turn. J3 to J5 and J8 to J15 are tried.
 pub(crate) fn add_nest(
     alloc: Global,
-    walk: &mut Walk<'_>,
+    draft: &mut Draft<'_>,
     line: u64,
     nest: &RawNest,
 ) -> Result<(), Stop>
     requires { IsReadableNest nest.now }
-    ensures ok { OnOk result (Joins walk.old walk.new line (form.Nest nest.now)) }
-    ensures err { IfErr result (StopsAt (broken_rule walk.old (form.Nest nest.now))) }
+    ensures ok { OnOk result (Joins draft.old draft.new line (form.Nest nest.now)) }
+    ensures err { IfErr result (StopsAt (broken_rule draft.old (form.Nest nest.now))) }
 {
-    let nest = checked(alloc, walk, line, nest)?;
-    walk.job.nests.push(nest)?;
+    let nest = checked(alloc, draft, line, nest)?;
+    let turn = draft.job.nests.len() as u32;
+    draft.job.nests.push(nest)?;
+    draft.job.turns.push(turn)?;
     Ok(())
 }

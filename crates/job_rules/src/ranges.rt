@@ -2,9 +2,9 @@ ghost use Rattle.std.specs.Prelude.{◌≡◌, ◌<◌, ◌≤◌, ◌^◌, ◌|
 ghost use Rattle.job_rules.specs.Sums.{IsSmallRange, variables_in, coefficient_of, range_at, least_part, greatest_part, least, greatest};
 ghost use Rattle.job_rules.specs.Nests.{is_box_empty, is_many, leaves_extent, range_of};
 
+use crate::resolved::ResolvedSpan;
 use crate::sums::Sum;
-use crate::wide::WideSpan;
-use bern_base::{Items, NoMemory};
+use bern_base::{Items, MOST_ITEMS, NoMemory};
 use std::alloc::Global;
 use std::marker::Model;
 
@@ -36,7 +36,7 @@ impl Model for Ranges {
 
 impl Ranges {
     /// The values of each variable, from its bounds.
-    pub(crate) fn of(alloc: Global, spans: &[WideSpan]) -> Result<Ranges, NoMemory>
+    pub(crate) fn of(alloc: Global, spans: &[ResolvedSpan]) -> Result<Ranges, NoMemory>
         ensures { IfOk result (λ ranges. ranges ≡ map range_of spans.now) }
     {
         let mut ranges = Items::from_vec(Vec::with_capacity(alloc, spans.len())?);
@@ -61,7 +61,7 @@ impl Ranges {
     #[tactic(auto, unfolding(crate::specs::Sums::least))]
     fn least(&self, sum: &Sum, variables: &[usize]) -> i128
         requires own { variables.now ≡ variables_in sum.now }
-        requires few { length variables.now ≤ 8 }
+        requires few { length variables.now ≤ MOST_ITEMS }
         ensures { result ≡ least self.now sum.now }
     {
         let mut total = sum.constant();
@@ -75,7 +75,7 @@ impl Ranges {
     #[tactic(auto, unfolding(crate::specs::Sums::greatest))]
     fn greatest(&self, sum: &Sum, variables: &[usize]) -> i128
         requires own { variables.now ≡ variables_in sum.now }
-        requires few { length variables.now ≤ 8 }
+        requires few { length variables.now ≤ MOST_ITEMS }
         ensures { result ≡ greatest self.now sum.now }
     {
         let mut total = sum.constant();
@@ -85,7 +85,7 @@ impl Ranges {
         total
     }
 
-    /// Whether a subscript leaves an extent of this size somewhere in the box, which is not empty.
+    /// J10: whether a subscript leaves an extent of this size somewhere in the box, which is not empty.
     #[tactic(auto, unfolding(crate::specs::Nests::leaves_extent))]
     pub(crate) fn leaves_extent(
         &self,
@@ -171,7 +171,7 @@ fn product(coefficient: i128, value: i128) -> i128
     coefficient * value
 }
 
-fn range_of(span: &WideSpan) -> Range
+fn range_of(span: &ResolvedSpan) -> Range
     ensures value { result ≡ range_of span.now }
     ensures small { IsSmallRange result }
 {

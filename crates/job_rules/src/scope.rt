@@ -6,9 +6,11 @@ ghost use Rattle.job_rules.specs.Looked.{IsReadable, IsReadableRef, subscript, s
 
 use crate::items::{Item, Meaning};
 use crate::names::{Named, Names};
+use crate::resolved::{ResolvedGuard, ResolvedRef, ResolvedSpan};
 use crate::sums::Sum;
-use crate::wide::{WideGuard, WideRef, WideSpan};
-use bern_base::{ExtentDecl, Items, NoMemory, RawGuard, RawItem, RawRef, RawSum, RawVar, Text};
+use bern_base::{
+    ExtentDecl, Items, MOST_SUM_NUMBER, NoMemory, RawGuard, RawItem, RawRef, RawSum, RawVar, Text,
+};
 use std::alloc::Global;
 use std::marker::Model;
 
@@ -78,7 +80,7 @@ impl<'s, 'a> NestScope<'s, 'a> {
 
     #[tactic(auto, unfolding(crate::specs::Looked::item_of))]
     fn item(&self, item: &RawItem) -> Item
-        requires { item.now.number < 2 ^ 32 }
+        requires { item.now.number ≤ MOST_SUM_NUMBER }
         ensures value { result ≡ item_of self.now item.now }
         ensures small { unsigned_abs result.number < item_limit result.meaning }
     {
@@ -108,35 +110,39 @@ impl<'s, 'a> NestScope<'s, 'a> {
     }
 
     #[tactic(auto, unfolding(crate::specs::Looked::span_of))]
-    fn span(&self, alloc: Global, var: &RawVar) -> Result<WideSpan, NoMemory>
+    fn span(&self, alloc: Global, var: &RawVar) -> Result<ResolvedSpan, NoMemory>
         requires { IsReadable var.now.lo × IsReadable var.now.hi }
         ensures { IfOk result (λ span. span ≡ span_of self.now var.now) }
     {
         let lo = self.sum(alloc, &var.lo)?;
         let hi = self.sum(alloc, &var.hi)?;
-        Ok(WideSpan { lo, hi })
+        Ok(ResolvedSpan { lo, hi })
     }
 
     #[tactic(auto, unfolding(crate::specs::Looked::guard_of))]
-    fn guard(&self, alloc: Global, guard: &RawGuard) -> Result<WideGuard, NoMemory>
+    fn guard(&self, alloc: Global, guard: &RawGuard) -> Result<ResolvedGuard, NoMemory>
         requires { IsReadable guard.now.left × IsReadable guard.now.right }
-        ensures { IfOk result (λ wide. wide ≡ guard_of self.now guard.now) }
+        ensures { IfOk result (λ resolved. resolved ≡ guard_of self.now guard.now) }
     {
         let left = self.sum(alloc, &guard.left)?;
         let right = self.sum(alloc, &guard.right)?;
-        Ok(WideGuard { left, right })
+        Ok(ResolvedGuard { left, right })
     }
 
     /// A reference with its names looked up.
     #[tactic(auto, unfolding(crate::specs::Looked::ref_of))]
-    pub(crate) fn reference(&self, alloc: Global, reference: &RawRef) -> Result<WideRef, NoMemory>
+    pub(crate) fn reference(
+        &self,
+        alloc: Global,
+        reference: &RawRef,
+    ) -> Result<ResolvedRef, NoMemory>
         requires { IsReadableRef reference.now }
-        ensures { IfOk result (λ wide. wide ≡ ref_of self.now reference.now) }
+        ensures { IfOk result (λ resolved. resolved ≡ ref_of self.now reference.now) }
     {
         let array = self.named(reference.name.as_bytes());
         let row = self.subscript(alloc, reference, 0)?;
         let col = self.subscript(alloc, reference, 1)?;
-        Ok(WideRef {
+        Ok(ResolvedRef {
             array,
             subs: reference.subs.len(),
             row,
@@ -156,7 +162,11 @@ impl<'s, 'a> NestScope<'s, 'a> {
     }
 
     /// The bounds of each variable.
-    pub(crate) fn spans(&self, alloc: Global, vars: &[RawVar]) -> Result<Items<WideSpan>, NoMemory>
+    pub(crate) fn spans(
+        &self,
+        alloc: Global,
+        vars: &[RawVar],
+    ) -> Result<Items<ResolvedSpan>, NoMemory>
         requires { All (λ var. IsReadable var.lo × IsReadable var.hi) vars.now }
         ensures { IfOk result (λ spans. spans ≡ map (span_of self.now) vars.now) }
     {
@@ -172,20 +182,20 @@ impl<'s, 'a> NestScope<'s, 'a> {
         &self,
         alloc: Global,
         guards: &[RawGuard],
-    ) -> Result<Items<WideGuard>, NoMemory>
+    ) -> Result<Items<ResolvedGuard>, NoMemory>
         requires { All (λ guard. IsReadable guard.left × IsReadable guard.right) guards.now }
-        ensures { IfOk result (λ wide. wide ≡ map (guard_of self.now) guards.now) }
+        ensures { IfOk result (λ resolved. resolved ≡ map (guard_of self.now) guards.now) }
     {
-        let mut wide = Items::from_vec(Vec::with_capacity(alloc, guards.len())?);
+        let mut resolved = Items::from_vec(Vec::with_capacity(alloc, guards.len())?);
         for guard in guards {
-            wide.push(self.guard(alloc, guard)?)?;
+            resolved.push(self.guard(alloc, guard)?)?;
         }
-        Ok(wide)
+        Ok(resolved)
     }
 }
 
 fn signed(minus: bool, number: u64) -> i128
-    requires { number < 2 ^ 32 }
+    requires { number ≤ MOST_SUM_NUMBER }
     ensures value { result ≡ signed minus number }
     ensures small { unsigned_abs result < 2 ^ 32 }
 {

@@ -4,16 +4,11 @@ ghost use Rattle.job_rules.specs.Sums.{IsSmall, item_limit, variable_of, constan
 
 use crate::items::{Item, Meaning};
 use crate::names::Named;
-use bern_base::{Items, NoMemory};
+use bern_base::{Items, MOST_COEFFICIENT, MOST_CONSTANT, MOST_ITEMS, NoMemory};
 use std::alloc::Global;
 use std::marker::Model;
 
-/// The largest size of a coefficient and of a constant.
-const COEFFICIENT: u128 = 1_048_576;
-
-const CONSTANT: u128 = 2_147_483_648;
-
-/// A sum of at most 8 items.
+/// A sum of few items.
 #[derive(Drop)]
 pub(crate) struct Sum {
     items: Items<Item>,
@@ -82,7 +77,7 @@ impl Sum {
 }
 
 impl Sum {
-    /// Whether the constants are equal, and the coefficients of each variable.
+    /// Whether the constants are equal, and the coefficients of each variable: what J12 and J14 compare.
     #[tactic(auto, unfolding(crate::specs::Sums::same_form))]
     pub(crate) fn same_form(&self, other: &Sum) -> bool
         ensures { result ≡ same_form self.now other.now }
@@ -92,19 +87,19 @@ impl Sum {
             && agree_on(self, other, other.items())
     }
 
-    /// Whether the constant and the coefficients are within their limits.
+    /// J15: whether the constant and the coefficients are within their limits.
     #[tactic(auto, unfolding(crate::specs::Sums::is_within))]
     pub(crate) fn is_within(&self) -> bool
         ensures { result ≡ is_within self.now }
     {
-        self.constant().unsigned_abs() <= CONSTANT && are_within(self, self.items())
+        self.constant().unsigned_abs() <= MOST_CONSTANT as u128 && are_within(self, self.items())
     }
 
     /// Its variables, each once.
     #[tactic(auto, unfolding(crate::specs::Sums::variables_in))]
     pub(crate) fn variables(&self, alloc: Global) -> Result<Items<usize>, NoMemory>
         ensures value { IfOk result (λ vars. vars ≡ variables_in self.now) }
-        ensures few { IfOk result (λ vars. length vars ≤ 8) }
+        ensures few { IfOk result (λ vars. length vars ≤ MOST_ITEMS) }
     {
         let mut vars = Items::new(alloc);
         for item in self.items.as_slice() {
@@ -192,7 +187,7 @@ fn is_within_at(sum: &Sum, item: &Item) -> bool
     ensures { result ≡ is_within_at sum.now item.now }
 {
     match variable(item) {
-        Some(variable) => sum.coefficient(variable).unsigned_abs() <= COEFFICIENT,
+        Some(variable) => sum.coefficient(variable).unsigned_abs() <= MOST_COEFFICIENT as u128,
         None => true,
     }
 }

@@ -1,10 +1,12 @@
 ghost use Rattle.std.specs.Prelude.{◌≡◌, slice_get};
 ghost use Rattle.std.specs.Option.{option_copied};
-ghost use Rattle.job_rules.specs.State.{is_extent, is_place, is_format, is_array, number_of, is_all_dense, shape_at, is_col};
+ghost use Rattle.job_rules.specs.State.{is_extent, is_place, is_format, is_array, number_of, shape_at};
+ghost use Rattle.bern_base.specs.Shapes.{is_all_dense};
+ghost use Rattle.job_model.specs.Accepted.{is_col};
 ghost use Rattle.job_rules.specs.Nests.{facts_at};
 
 use crate::names::Named;
-use bern_base::{Axis, Checked, Shape};
+use bern_base::{Axis, Checked};
 
 /// What the rules of a nest ask of an array.
 #[derive(Clone, Copy, Debug, PartialEq, Eq)]
@@ -48,17 +50,8 @@ fn is_dense_format(job: &Checked, format: u32) -> bool
     ensures { result ≡ is_all_dense (shape_at job.now.formats format) }
 {
     match job.formats.get(format as usize) {
-        Some(decl) => is_all_dense(&decl.shape),
+        Some(decl) => decl.shape.is_all_dense(),
         None => true,
-    }
-}
-
-pub(crate) fn is_all_dense(shape: &Shape) -> bool
-    ensures { result ≡ is_all_dense shape.now }
-{
-    match shape {
-        Shape::DenseOne | Shape::DenseDense(_) => true,
-        _ => false,
     }
 }
 

@@ -1,14 +1,17 @@
 ghost use Rattle.std.specs.Prelude.{◌≡◌, ◌≤◌, ◌+◌, ◌*◌, ◌++◌, ℕ, List, length, min, max, nat_eq, ◌||◌, if◌then◌else◌};
-ghost use Rattle.job_rules.specs.Terms.{terms_of, product_terms, factor_terms, choices, size_of, has_too_many};
+ghost use Rattle.job_rules.specs.Terms.{terms_of, product_terms, factor_terms, size_of, has_too_many};
+ghost use Rattle.job_model.specs.References.{joined};
 ghost use Rattle.job_rules.specs.Rules.{has_too_many_terms};
 
-use crate::lookup::LEVELS;
-use bern_base::{RawExpr, RawFactor, RawNest, RawProduct};
+use bern_base::{
+    EXPRESSION_LEVELS, MOST_REFERENCES, MOST_TERMS, RawExpr, RawFactor, RawNest, RawProduct,
+};
 
-/// One more than the terms that a nest may have, and one more than the references of a term.
-const TERMS: u32 = 17;
+/// One more than the terms that a nest may have.
+const TERMS: u32 = MOST_TERMS as u32 + 1;
 
-const REFERENCES: u32 = 5;
+/// One more than the references of a term.
+const REFERENCES: u32 = MOST_REFERENCES as u32 + 1;
 
 /// How many terms an expression has, and the most references of one; `TERMS` and `REFERENCES` stand for all larger numbers.
 #[derive(Clone, Copy, Debug, PartialEq, Eq)]
@@ -28,9 +31,9 @@ impl Size {
         }
     }
 
-    /// Of all choices of a term from each.
+    /// Of all joined of a term from each.
     fn times(self, other: Size) -> Size
-        ensures { (xs ys : List ℕ) → self ≡ size_of xs → other ≡ size_of ys → result ≡ size_of (choices xs ys) }
+        ensures { (xs ys : List ℕ) → self ≡ size_of xs → other ≡ size_of ys → result ≡ size_of (joined xs ys) }
     {
         let terms = self.terms.min(TERMS) * other.terms.min(TERMS);
         if terms == 0 {
@@ -43,12 +46,12 @@ impl Size {
     }
 }
 
-/// Whether the body has more than 16 terms, or a term more than 4 references. Nothing is multiplied out.
+/// J15: whether the body has too many terms, or a term too many references. Nothing is multiplied out.
 #[tactic(auto, unfolding(crate::specs::Rules::has_too_many_terms))]
 pub(crate) fn has_too_many_terms(nest: &RawNest) -> bool
     ensures { result ≡ has_too_many_terms nest.now }
 {
-    let size = expression_size(LEVELS, &nest.body);
+    let size = expression_size(EXPRESSION_LEVELS, &nest.body);
     size.terms == TERMS || size.most == REFERENCES
 }
 

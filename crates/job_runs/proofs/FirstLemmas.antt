@@ -8,8 +8,8 @@ use Rattle.bern_base.specs.Matrix.{IsMatrix}
 use Rattle.bern_base.specs.declared.job.ArrayDecl.{ArrayDecl}
 use Rattle.bern_base.specs.declared.job.Checked.{Checked}
 use Rattle.bern_base.specs.declared.matrix.Matrix.{Matrix}
-use Rattle.dense_model.specs.State.{element, matrix_values}
-use Rattle.nest_model.specs.Runnable.{is_dense}
+use Rattle.bern_base.specs.Matrix.{element, matrix_values}
+use Rattle.job_model.specs.Runnable.{is_dense}
 use Rattle.nest_walk.specs.Arrays.{AreArraysOf, IsArrayOf, IsSound, IsWhole, state_of}
 use Rattle.nest_walk.specs.Arrays as held
 use Rattle.nest_walk.specs.declared.arrays.ArrayValues.{ArrayValues}

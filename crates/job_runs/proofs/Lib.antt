@@ -1,2 +1,3 @@
+pub mod DueLemmas
 pub mod FirstLemmas
 pub mod PrintLemmas

@@ -11,10 +11,10 @@ use Rattle.std.proofs.lemmas.Option.{slice_get_within}
 use Rattle.bern_base.specs.declared.job.ArrayDecl.{ArrayDecl}
 use Rattle.bern_base.specs.declared.job.Checked.{Checked}
 use Rattle.bern_base.specs.declared.matrix.Matrix.{Matrix}
-use Rattle.dense_model.specs.ArrayText.{array_text}
-use Rattle.dense_model.specs.State.{State, values_in}
-use Rattle.job_front.specs.CanRun.{IsPrintable}
-use Rattle.nest_model.specs.Nests.{end_state}
+use Rattle.mm_profile.specs.ArrayText.{array_text}
+use Rattle.job_model.specs.State.{State, values_in}
+use Rattle.job_model.specs.Accepted.{IsDenseAt}
+use Rattle.job_model.specs.Nests.{end_state}
 use Rattle.nest_walk.proofs.StateLemmas.{get_is}
 use Rattle.nest_walk.specs.Arrays.{AreArraysOf, IsArrayOf, IsWhole, state_of, values_of}
 use Rattle.nest_walk.specs.declared.arrays.ArrayValues.{ArrayValues}
@@ -28,25 +28,25 @@ use Rattle.rank_product.specs.declared.shape.ProductShape.{ProductShape}
 use Rattle.job_runs.specs.Texts.{arrays_text, declared_text, text_of}
 
 -- what the print line at a place is of
-pub print_at : (job : Checked) (items : List ℕ) (i : ℕ) → items ≡ job.prints → All (IsPrintable job) job.prints → i < length items → IsPrintable job (get_or items i 0)
-print_at job items i same prints within = let all : All (IsPrintable job) items = subst (All (IsPrintable job)) (sym same) prints in all i 0 within
+pub print_at : (job : Checked) (items : List ℕ) (i : ℕ) → items ≡ job.prints → All (IsDenseAt job) job.prints → i < length items → IsDenseAt job (get_or items i 0)
+print_at job items i same prints within = let all : All (IsDenseAt job) items = subst (All (IsDenseAt job)) (sym same) prints in all i 0 within
 
-pub print_below : (job : Checked) (number : ℕ) → IsPrintable job number → number < length job.arrays
+pub print_below : (job : Checked) (number : ℕ) → IsDenseAt job number → number < length job.arrays
 print_below job number is = slice_get_within job.arrays number is.0 is.1
 
-pub print_held : (job : Checked) (arrays : List ArrayValues) (number : ℕ) → AreArraysOf job arrays → IsPrintable job number → number < length arrays
+pub print_held : (job : Checked) (arrays : List ArrayValues) (number : ℕ) → AreArraysOf job arrays → IsDenseAt job number → number < length arrays
 print_held job arrays number are is = omega (arith, are.long, print_below job number is)
 
-held : (job : Checked) (arrays : List ArrayValues) (number : ℕ) (values : ArrayValues) → AreArraysOf job arrays → IsPrintable job number → values ≡ get_or arrays number values → slice_get arrays number ≡ Some values
+held : (job : Checked) (arrays : List ArrayValues) (number : ℕ) (values : ArrayValues) → AreArraysOf job arrays → IsDenseAt job number → values ≡ get_or arrays number values → slice_get arrays number ≡ Some values
 held job arrays number values are is at = get_is arrays number values (print_held job arrays number are is) at
 
-of_print : (job : Checked) (arrays : List ArrayValues) (number : ℕ) (values : ArrayValues) → AreArraysOf job arrays → (is : IsPrintable job number) → values ≡ get_or arrays number values → IsArrayOf job is.0 values
+of_print : (job : Checked) (arrays : List ArrayValues) (number : ℕ) (values : ArrayValues) → AreArraysOf job arrays → (is : IsDenseAt job number) → values ≡ get_or arrays number values → IsArrayOf job is.0 values
 of_print job arrays number values are is at = are.each number is.0 values is.1 (held job arrays number values are is at)
 
-pub print_whole : (job : Checked) (arrays : List ArrayValues) (number : ℕ) (values : ArrayValues) → AreArraysOf job arrays → IsPrintable job number → values ≡ get_or arrays number values → IsWhole values
+pub print_whole : (job : Checked) (arrays : List ArrayValues) (number : ℕ) (values : ArrayValues) → AreArraysOf job arrays → IsDenseAt job number → values ≡ get_or arrays number values → IsWhole values
 print_whole job arrays number values are is at = (of_print job arrays number values are is at).whole is.2
 
-pub print_size : (job : Checked) (arrays : List ArrayValues) (number : ℕ) (values : ArrayValues) (array : ArrayDecl) → AreArraysOf job arrays → IsPrintable job number → values ≡ get_or arrays number values → slice_get job.arrays number ≡ Some array →
+pub print_size : (job : Checked) (arrays : List ArrayValues) (number : ℕ) (values : ArrayValues) (array : ArrayDecl) → AreArraysOf job arrays → IsDenseAt job number → values ≡ get_or arrays number values → slice_get job.arrays number ≡ Some array →
     length (values_of values) ≡ array.rows * array.cols
 print_size job arrays number values array are is at declared =
     (of_print job arrays number values are is at).size ∙ ap (λ (a : ArrayDecl). a.rows * a.cols) (some_same (sym is.1 ∙ declared))
@@ -57,7 +57,7 @@ values_at (x ∷ xs) zero values is = let same : x ≡ values = cc in ap values_
 values_at (x ∷ xs) (suc n) values is = values_at xs n values is
 
 -- one print line more
-pub print_more : (job : Checked) (arrays : List ArrayValues) (items : List ℕ) (i : ℕ) (values : ArrayValues) (array : ArrayDecl) (old new : List ℕ) → AreArraysOf job arrays → IsPrintable job (get_or items i 0) → i < length items →
+pub print_more : (job : Checked) (arrays : List ArrayValues) (items : List ℕ) (i : ℕ) (values : ArrayValues) (array : ArrayDecl) (old new : List ℕ) → AreArraysOf job arrays → IsDenseAt job (get_or items i 0) → i < length items →
     values ≡ get_or arrays (get_or items i 0) values → slice_get job.arrays (get_or items i 0) ≡ Some array → old ≡ flat_map (text_of job.arrays (state_of arrays)) (take i items) →
     new ≡ old ++ array_text array.name array.rows array.cols (values_of values) → new ≡ flat_map (text_of job.arrays (state_of arrays)) (take (i + 1) items)
 print_more job arrays items i values array old new are is within at declared before after =

@@ -30,18 +30,3 @@ fn append_events(events: u64, out: &mut Text) -> Result<(), NoMemory>
     out.append(b"\n")?;
     Ok(())
 }
-
-#[cfg(test)]
-mod tests {
-    use super::write_events;
-    use bern_base::Text;
-    use std::test::Fail;
-
-    #[test]
-    fn a_number_of_events_is_a_line(rt: HostRuntime) -> Result<(), Fail> {
-        let mut text = Text::from_bytes(rt.alloc(), b"Y\n")?;
-        write_events(8260, &mut text)?;
-        assert_eq!(rt; text.as_bytes(), b"Y\nevents 8260\n".as_slice());
-        Ok(())
-    }
-}

@@ -1,6 +1,5 @@
 ghost use Rattle.std.specs.Prelude.{◌≡◌, true, IfOk};
-ghost use Rattle.bern_base.specs.Matrix.{IsMatrix};
-ghost use Rattle.dense_model.specs.State.{matrix_values};
+ghost use Rattle.bern_base.specs.Matrix.{matrix_values, IsMatrix};
 ghost use Rattle.nest_walk.specs.Arrays.{AreArraysOf, IsSound, IsWhole, state_of, values_of};
 ghost use Rattle.rank_product.specs.Runs.{AreOfJob, first_state};
 

@@ -9,7 +9,5 @@ mod events;
 mod first;
 mod printing;
 mod running;
-#[cfg(test)]
-mod tests;
 
 pub use running::{replay_text, run_text};

@@ -1,7 +1,7 @@
 ghost use Rattle.std.specs.Prelude.{◌≡◌, ◌++◌, ◌*◌, length, IfOk, OnOk};
 ghost use Rattle.std.specs.List.{All};
-ghost use Rattle.dense_model.specs.ArrayText.{array_text};
-ghost use Rattle.job_front.specs.CanRun.{IsPrintable};
+ghost use Rattle.mm_profile.specs.ArrayText.{array_text};
+ghost use Rattle.job_model.specs.Accepted.{IsDenseAt};
 ghost use Rattle.nest_walk.specs.Arrays.{AreArraysOf, IsWhole, state_of, values_of};
 ghost use Rattle.job_runs.specs.Texts.{arrays_text};
 
@@ -16,7 +16,7 @@ pub(crate) fn print_arrays(
     job: &Checked,
     arrays: &[ArrayValues],
 ) -> Result<Text, NoMemory>
-    requires prints { All (IsPrintable job.now) job.now.prints }
+    requires prints { All (IsDenseAt job.now) job.now.prints }
     requires arrays { AreArraysOf job.now arrays.now }
     ensures { IfOk result (λ text. text ≡ arrays_text job.now (state_of arrays.now)) }
 {

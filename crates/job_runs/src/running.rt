@@ -1,26 +1,22 @@
-ghost use Rattle.std.specs.Prelude.{◌≡◌, ◌≤◌, ◌++◌, IfOk};
-ghost use Rattle.nest_model.specs.Nests.{end_state};
-ghost use Rattle.job_front.specs.CanRun.{CanRun};
-ghost use Rattle.rank_scripts.specs.Scripts.{total};
-ghost use Rattle.rank_model.specs.Letters.{scripts};
-ghost use Rattle.rank_node.specs.Jobs.{is_whole};
-ghost use Rattle.rank_product.specs.Runs.{AreOfJob, first_state, run_of};
+ghost use Rattle.std.specs.Prelude.{◌≡◌, ◌≤◌, IfOk};
+ghost use Rattle.job_model.specs.Accepted.{IsAccepted};
+ghost use Rattle.rank_product.specs.Runs.{AreOfJob};
 ghost use Rattle.rank_product.specs.Shapes.{IsProduct};
-ghost use Rattle.job_runs.specs.Texts.{arrays_text, events_text};
+ghost use Rattle.job_runs.specs.Texts.{text_of_replay, text_of_run};
 
 use crate::events::write_events;
 use crate::first::first_arrays;
 use crate::printing::print_arrays;
-use bern_base::{Checked, Items, Matrix, NoMemory, Text};
+use bern_base::{Checked, Items, MOST_RANKS, Matrix, NoMemory, Text};
 use nest_walk::{ArrayValues, run_nests};
 use rank_product::{ProductShape, product_on_ranks};
 use std::alloc::Global;
 
-/// Runs all nests of a job in order, each over all its points, and prints the arrays of its print lines.
+/// Runs the turns of a job in order, each over all points of its nest, and prints the arrays of its print lines.
 pub fn run_text(alloc: Global, job: &Checked, matrices: Items<Matrix>) -> Result<Text, NoMemory>
-    requires runs { CanRun job.now }
+    requires accepted { IsAccepted job.now }
     requires matrices { AreOfJob job.now matrices }
-    ensures { IfOk result (λ text. text ≡ arrays_text job.now (end_state job.now (first_state matrices))) }
+    ensures { IfOk result (λ text. text ≡ text_of_run job.now matrices) }
 {
     let mut arrays = first_arrays(alloc, job, matrices)?.into_vec();
     run_nests(job, &mut arrays);
@@ -38,11 +34,11 @@ pub fn replay_text(
     matrices: Items<Matrix>,
 ) -> Result<Text, NoMemory>
     requires product { IsProduct job.now product }
-    requires runs { CanRun job.now }
+    requires accepted { IsAccepted job.now }
     requires matrices { AreOfJob job.now matrices }
     requires some { 1 ≤ ranks }
-    requires most { ranks ≤ 64 }
-    ensures { IfOk result (λ text. text ≡ arrays_text job.now (end_state job.now (first_state matrices)) ++ events_text (total (scripts (run_of (is_whole job.now) product ranks matrices)))) }
+    requires most { ranks ≤ MOST_RANKS }
+    ensures { IfOk result (λ text. text ≡ text_of_replay ranks job.now product matrices) }
 {
     let (values, events) = product_on_ranks(alloc, job, product, ranks, seed, &matrices)?;
     let mut arrays = first_arrays(alloc, job, matrices)?;

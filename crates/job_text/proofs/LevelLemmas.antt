@@ -48,13 +48,13 @@ abbrev Rises : Option ℤ → List ℤ → Type 0
 Rises last [] = Unit {0}
 Rises last (z ∷ zs) = (is_above last z ≡ true) × Rises (Some z) zs
 
-rise-behind : (a : ℤ) (zs : List ℤ) → Rises (Some a) zs → Rise (a ∷ zs)
-rise-behind a [] is = tt
-rise-behind a (z ∷ zs) is = (above-lt a z is.0, rise-behind z zs is.1)
+rise-after : (a : ℤ) (zs : List ℤ) → Rises (Some a) zs → Rise (a ∷ zs)
+rise-after a [] is = tt
+rise-after a (z ∷ zs) is = (above-lt a z is.0, rise-after z zs is.1)
 
-rises-behind : (a : ℤ) (zs : List ℤ) → Rise (a ∷ zs) → Rises (Some a) zs
-rises-behind a [] is = tt
-rises-behind a (z ∷ zs) is = (lt-above a z is.0, rises-behind z zs is.1)
+rises-after : (a : ℤ) (zs : List ℤ) → Rise (a ∷ zs) → Rises (Some a) zs
+rises-after a [] is = tt
+rises-after a (z ∷ zs) is = (lt-above a z is.0, rises-after z zs is.1)
 
 sound_next : (last : Option ℤ) (word : List ℕ) (z : ℤ) → next_offset last word ≡ Some z → IsOffset z word × (is_above last z ≡ true)
 sound_next last word z is =
@@ -89,12 +89,12 @@ sound_offsets [] zs is = absurd cc
 sound_offsets (word ∷ ws) [] is = absurd ((sound_from None (word ∷ ws) [] is).0)
 sound_offsets (word ∷ ws) (z ∷ zs) is =
     let found = sound_from None (word ∷ ws) (z ∷ zs) is in
-    record { spelled = found.0; rising = rise-behind z zs found.1.1; some = λ none. cc }
+    record { spelled = found.0; rising = rise-after z zs found.1.1; some = λ none. cc }
 
 complete_offsets : (ws : List (List ℕ)) (zs : List ℤ) → AreOffsets zs ws → offsets_of ws ≡ Some zs
 complete_offsets ws [] is = absurd (is.some refl)
 complete_offsets [] (z ∷ zs) is = absurd is.spelled
-complete_offsets (word ∷ ws) (z ∷ zs) is = complete_from None (word ∷ ws) (z ∷ zs) is.spelled (refl, rises-behind z zs is.rising)
+complete_offsets (word ∷ ws) (z ∷ zs) is = complete_from None (word ∷ ws) (z ∷ zs) is.spelled (refl, rises-after z zs is.rising)
 
 pub sound_levels : (ws : List (List ℕ)) (s : RawShape) → levels_of ws ≡ Some s → AreLevels s ws
 unfolding levels_of
@@ -131,15 +131,15 @@ complete_levels ws (shape.Diagonal offsets) is = ap levels_of is.1 ∙ ap (optio
 complete_levels ws (shape.Permute file) is = ap levels_of is.0 ∙ ap (option_map shape.Permute) (complete_file file is.1)
 
 -- no comma stands in a name
-comma_behind : (name rest : List ℕ) → list_all is_name_byte name ≡ true → comma_place (name ++ rest) ≡ length name + comma_place rest
-comma_behind [] rest names = omega arith
-comma_behind (byte ∷ name) rest names =
+comma_after : (name rest : List ℕ) → list_all is_name_byte name ≡ true → comma_place (name ++ rest) ≡ length name + comma_place rest
+comma_after [] rest names = omega arith
+comma_after (byte ∷ name) rest names =
     let parts = both_true (is_name_byte byte) (list_all is_name_byte name) names in
     let other : is_comma byte ≡ false = ⊎_elim
     (λ comma. absurd (false≢true (ap is_name_byte (sym (eqb-true byte 44 comma)) ∙ parts.0)))
     (λ differs. differs)
     (cases_Bool (is_comma byte)) in
-    let later = comma_behind name rest parts.1 in
+    let later = comma_after name rest parts.1 in
     cond-true (not (is_comma byte)) (1 + comma_place (name ++ rest)) 0 (ap not other) ∙ omega arith
 
 name_bytes : (name : List ℕ) → IsName name → list_all is_name_byte name ≡ true
@@ -170,14 +170,14 @@ pub complete_extents : (word : List ℕ) (names : List (List ℕ)) → AreExtent
 unfolding extents_of
 complete_extents word [] is = absurd is
 complete_extents word (only ∷ []) is =
-    let place : comma_place word ≡ length only = ap comma_place (is.0 ∙ sym (append-nil only)) ∙ comma_behind only [] (name_bytes only is.1) ∙ omega arith in
+    let place : comma_place word ≡ length only = ap comma_place (is.0 ∙ sym (append-nil only)) ∙ comma_after only [] (name_bytes only is.1) ∙ omega arith in
     let size = ap length is.0 in
     cond-false _ _ _ (le-ltb (comma_place word) (length word) (omega arith)) ∙ ap (option_map only_extent) (ap name_of is.0 ∙ complete_name only is.1)
 complete_extents word (rows ∷ cols ∷ []) is =
-    let place : comma_place word ≡ length rows = ap comma_place is.0 ∙ comma_behind rows (44 ∷ cols) (name_bytes rows is.1) ∙ omega arith in
+    let place : comma_place word ≡ length rows = ap comma_place is.0 ∙ comma_after rows (44 ∷ cols) (name_bytes rows is.1) ∙ omega arith in
     let size : length word ≡ length rows + suc (length cols) = ap length is.0 ∙ length-append rows (44 ∷ cols) in
     let front : take (comma_place word) word ≡ rows = ap (λ n. take n word) place ∙ ap (take (length rows)) is.0 ∙ take_front rows (44 ∷ cols) in
-    let back : drop (comma_place word + 1) word ≡ cols = ap (λ n. drop (n + 1) word) place ∙ ap (drop (length rows + 1)) is.0 ∙ drop_behind rows cols in
+    let back : drop (comma_place word + 1) word ≡ cols = ap (λ n. drop (n + 1) word) place ∙ ap (drop (length rows + 1)) is.0 ∙ drop_after rows cols in
     cond-true _ _ _ (lt-ltb (comma_place word) (length word) (omega arith))
     ∙ ap (λ f. both_of f (drop (comma_place word + 1) word)) front ∙ ap (both_of rows) back
     ∙ ap (option_and_then (λ r. option_map (two_extents r) (name_of cols))) (complete_name rows is.1) ∙ ap (option_map (two_extents rows)) (complete_name cols is.2)
@@ -186,9 +186,9 @@ complete_extents word (rows ∷ cols ∷ []) is =
     take_front [] ys = refl
     take_front (x ∷ xs) ys = ap (λ l. x ∷ l) (take_front xs ys)
 
-    drop_behind : (xs ys : List ℕ) → drop (length xs + 1) (xs ++ 44 ∷ ys) ≡ ys
-    drop_behind [] ys = refl
-    drop_behind (x ∷ xs) ys = let e : suc (length xs) + 1 ≡ suc (length xs + 1) = omega arith in ap (λ n. drop n (x ∷ xs ++ 44 ∷ ys)) e ∙ drop_behind xs ys
+    drop_after : (xs ys : List ℕ) → drop (length xs + 1) (xs ++ 44 ∷ ys) ≡ ys
+    drop_after [] ys = refl
+    drop_after (x ∷ xs) ys = let e : suc (length xs) + 1 ≡ suc (length xs + 1) = omega arith in ap (λ n. drop n (x ∷ xs ++ 44 ∷ ys)) e ∙ drop_after xs ys
 complete_extents word (rows ∷ cols ∷ more ∷ names) is = absurd is
 
 pub sound_source : (ws : List (List ℕ)) (file : Option (List ℕ)) → source_of ws ≡ Some file → IsSource file ws

@@ -3,6 +3,7 @@ pub mod NumberLemmas
 pub mod PlaceLemmas
 pub mod TokenLemmas
 pub mod StopLemmas
+pub mod ShapeLemmas
 pub mod ListLemmas
 pub mod SumLemmas
 pub mod ExpressionLemmas
@@ -12,3 +13,4 @@ pub mod OffsetLemmas
 pub mod WordLemmas
 pub mod LevelLemmas
 pub mod JobLemmas
+pub mod DepthLemmas

@@ -2,6 +2,7 @@
 use Rattle.std.proofs.Common.{◌≡◌, ◌≢◌, ℕ, suc, ◌<◌, ◌≤◌, Bool, true, false, Some, None, option_map, List, [], ◌∷◌, ◌++◌, length, length-append, append_assoc, append-nil, refl, sym, ap, subst, ◌∙◌, arith}
 use Rattle.std.specs.Prelude.{option_and_then}
 use Rattle.std.proofs.lemmas.Option.{some_pair_parts, same_Some}
+use Rattle.bern_base.specs.declared.limits.TheConstants.{EXPRESSION_LEVELS}
 use Rattle.bern_base.specs.declared.raw.RawSum.{RawSum}
 use Rattle.bern_base.specs.declared.raw.RawRef.{RawRef}
 use Rattle.bern_base.specs.declared.raw.RawVar.{RawVar}
@@ -13,7 +14,7 @@ use Rattle.bern_base.specs.declared.raw.RawExpr.{RawExpr}
 use Rattle.job_text.specs.declared.tokens.Token.{Token}
 use Rattle.job_text.specs.declared.tokens.Token.TheVariants.{Name, Mark}
 use Rattle.job_text.specs.declared.tokens.Mark.TheVariants as m
-use Rattle.job_text.specs.Grammar.{Spread, Led, IsSum, IsRef, IsExpr, IsSpan, var_name, comparison, IsGuard, comma, AreGuards, assignment, levels, IsNest}
+use Rattle.job_text.specs.Grammar.{Spread, Led, IsSum, IsRef, IsExpr, IsSpan, var_name, comparison, IsGuard, comma, AreGuards, assignment, IsNest}
 use Rattle.job_text.specs.NestReading.{sum_at, ref_at, expr_at, as_var, to_at, span_at, name_at, vars_at, rel_at, as_guard, right_at, compared_at, guard_at, comma_at, guards_at, ended_at, whole_at, assign_at, as_nest, body_at, assigned_at, statement_at, guarded_at, nest_at}
 use Rattle.job_text.proofs.TokenLemmas.{mapped-some}
 use Rattle.job_text.proofs.ListLemmas.{sound_list, complete_list, spread_few, spread_begins}
@@ -162,21 +163,21 @@ sound_ended : {A : Type 0} (x y : A) (rest : List Token) → ended_at x rest ≡
 sound_ended x y [] is = (same_Some x y is, refl)
 sound_ended x y (token ∷ rest) is = absurd cc
 
-sound_whole : (n : ℕ) (tokens : List Token) (x : RawExpr) → whole_at n tokens ≡ Some x → IsExpr levels x tokens
+sound_whole : (n : ℕ) (tokens : List Token) (x : RawExpr) → whole_at n tokens ≡ Some x → IsExpr EXPRESSION_LEVELS x tokens
 unfolding whole_at
 sound_whole n tokens x is =
-    let read = bound-some (λ p. ended_at p.0 p.1) (expr_at n 17 tokens) x is in
+    let read = bound-some (λ p. ended_at p.0 p.1) (expr_at n EXPRESSION_LEVELS tokens) x is in
     let last = sound_ended read.0.0 x read.0.1 read.2 in
-    let found = sound_expr n 17 tokens read.0.1 read.0.0 read.1 in
-    subst (λ e. IsExpr levels e tokens) last.0 (subst (IsExpr levels read.0.0) (sym (found.1 ∙ ap (λ r. found.0 ++ r) last.1 ∙ append-nil found.0)) found.2)
+    let found = sound_expr n EXPRESSION_LEVELS tokens read.0.1 read.0.0 read.1 in
+    subst (λ e. IsExpr EXPRESSION_LEVELS e tokens) last.0 (subst (IsExpr EXPRESSION_LEVELS read.0.0) (sym (found.1 ∙ ap (λ r. found.0 ++ r) last.1 ∙ append-nil found.0)) found.2)
 
-complete_whole : (n : ℕ) (tokens : List Token) (x : RawExpr) → IsExpr levels x tokens → length tokens < n → whole_at n tokens ≡ Some x
+complete_whole : (n : ℕ) (tokens : List Token) (x : RawExpr) → IsExpr EXPRESSION_LEVELS x tokens → length tokens < n → whole_at n tokens ≡ Some x
 unfolding whole_at
 complete_whole n tokens x is below =
     let whole = append-nil tokens in
     let size = ap length whole in
-    let read = complete_expr n n 17 tokens [] x (omega arith) is tt (omega arith) in
-    ap (option_and_then (λ p. ended_at p.0 p.1)) (ap (expr_at n 17) (sym whole) ∙ read)
+    let read = complete_expr n n EXPRESSION_LEVELS tokens [] x (omega arith) is tt (omega arith) in
+    ap (option_and_then (λ p. ended_at p.0 p.1)) (ap (expr_at n EXPRESSION_LEVELS) (sym whole) ∙ read)
 
 joins_assign : (tokens rest : List Token) (replace : Bool) → assign_at tokens ≡ Some (replace, rest) → tokens ≡ assignment replace ∷ rest
 joins_assign (Mark m.Assign ∷ tokens) rest replace is = let same = some_pair_parts true replace tokens rest is in ap (λ t. Mark m.Assign ∷ t) same.1 ∙ ap (λ b. assignment b ∷ rest) same.0
@@ -195,7 +196,7 @@ record IsStatement (vars : List RawVar) (guards : List RawGuard) (nest : RawNest
   same_vars : nest.vars ≡ vars
   same_guards : nest.guards ≡ guards
   is_target : IsRef nest.target target
-  is_body : IsExpr levels nest.body body
+  is_body : IsExpr EXPRESSION_LEVELS nest.body body
 
 sound_body : (n : ℕ) (vars : List RawVar) (guards : List RawGuard) (target : RawRef) (front after : List Token) (replace : Bool) (nest : RawNest) → IsRef target front → body_at n vars guards target (replace, after) ≡ Some nest → IsStatement vars guards nest (Mark m.Colon ∷ (front ++ assignment replace ∷ after))
 sound_body n vars guards target front after replace nest are is =
@@ -235,7 +236,7 @@ sound_nest n (Mark m.Doany ∷ tokens) nest is =
     }
 sound_nest n tokens nest is = absurd cc
 
-complete_statement : (n : ℕ) (nest : RawNest) (target body : List Token) → IsRef nest.target target → IsExpr levels nest.body body → length body < n → statement_at n nest.vars nest.guards (Mark m.Colon ∷ (target ++ (assignment nest.replace ∷ body))) ≡ Some nest
+complete_statement : (n : ℕ) (nest : RawNest) (target body : List Token) → IsRef nest.target target → IsExpr EXPRESSION_LEVELS nest.body body → length body < n → statement_at n nest.vars nest.guards (Mark m.Colon ∷ (target ++ (assignment nest.replace ∷ body))) ≡ Some nest
 unfolding statement_at
 complete_statement n nest target body is_target is_body below =
     ap (option_and_then (assigned_at n nest.vars nest.guards)) (complete_ref target (assignment nest.replace ∷ body) nest.target is_target)

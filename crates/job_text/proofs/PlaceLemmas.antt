@@ -10,6 +10,6 @@ place_or_end at end below = ⊎_elim
     (λ after. ap (λ t. unwrap_or (cond t (Some at) None) end) (le-ltb at end after) ∙ omega arith)
     (cases_lt at end)
 
--- from a place on stands what is there, and then what stands behind it
+-- from a place on stands what is there, and then what stands after it
 pub drop_at : {A : Type 0} (xs : List A) (i : ℕ) (x : A) → i < length xs → x ≡ get_or xs i x → drop i xs ≡ x ∷ drop (i + 1) xs
 drop_at xs i x below is = let one : i + 1 ≡ suc i = omega arith in rw one (drop-cons xs i x below ∙ ap (λ y. y ∷ drop (suc i) xs) (sym is))

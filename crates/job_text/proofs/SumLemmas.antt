@@ -1,8 +1,9 @@
 -- Items, sums and references: what is read is spelled so, and what is spelled so is read.
-use Rattle.std.proofs.Common.{◌≡◌, ◌≢◌, ℕ, suc, ◌<◌, ◌≤◌, ◌^◌, Bool, true, false, ltb, Option, Some, None, option_map, List, [], ◌∷◌, ◌++◌, length, append_assoc, refl, sym, ap, subst, ◌∙◌, arith, inl, inr}
-use Rattle.std.specs.Prelude.{option_and_then}
+use Rattle.std.proofs.Common.{◌≡◌, ◌≢◌, ℕ, suc, ◌≤◌, Bool, true, false, Option, Some, None, option_map, List, [], ◌∷◌, ◌++◌, length, append_assoc, refl, sym, ap, subst, ◌∙◌, arith, inl, inr}
+use Rattle.std.specs.Prelude.{option_and_then, nat_le}
 use Rattle.std.proofs.lemmas.Option.{some_pair_parts, cond_some}
-use Rattle.std.proofs.lemmas.Bool.{ltb-true, lt-ltb, cond-true}
+use Rattle.std.proofs.lemmas.Bool.{leb-true, le-leb, cond-true}
+use Rattle.bern_base.specs.declared.limits.TheConstants.{MOST_ITEMS, MOST_SUM_NUMBER}
 use Rattle.bern_base.specs.declared.raw.RawItem.{RawItem}
 use Rattle.bern_base.specs.declared.raw.RawSum.{RawSum}
 use Rattle.bern_base.specs.declared.raw.RawRef.{RawRef}
@@ -42,18 +43,18 @@ Stops-sign (Mark m.Minus ∷ tokens) stops = absurd stops
 Stops-sign (Mark m.Plus ∷ tokens) stops = absurd stops
 Stops-sign tokens stops = refl
 
-limited-is : (minus : Bool) (n : ℕ) (name : Option (List ℕ)) (tokens rest : List Token) (x : RawItem) → limited_item minus n name tokens ≡ Some (x, rest) → (n < 2 ^ 32) × (x ≡ record { minus = minus; number = n; name = name }) × (tokens ≡ rest)
+limited-is : (minus : Bool) (n : ℕ) (name : Option (List ℕ)) (tokens rest : List Token) (x : RawItem) → limited_item minus n name tokens ≡ Some (x, rest) → (n ≤ MOST_SUM_NUMBER) × (x ≡ record { minus = minus; number = n; name = name }) × (tokens ≡ rest)
 limited-is minus n name tokens rest x is =
-    let test = cond_some (ltb n (2 ^ 32)) (record { minus = minus; number = n; name = name }, tokens) (x, rest) is in
-    (ltb-true n (2 ^ 32) test.0, sym (ap (λ p. p.0) test.1), ap (λ p. p.1) test.1)
+    let test = cond_some (nat_le n MOST_SUM_NUMBER) (record { minus = minus; number = n; name = name }, tokens) (x, rest) is in
+    (leb-true n MOST_SUM_NUMBER test.0, sym (ap (λ p. p.0) test.1), ap (λ p. p.1) test.1)
 
-limited-fits : (minus : Bool) (n : ℕ) (name : Option (List ℕ)) (tokens : List Token) → n < 2 ^ 32 → limited_item minus n name tokens ≡ Some (record { minus = minus; number = n; name = name }, tokens)
-limited-fits minus n name tokens fits = cond-true _ _ _ (lt-ltb n (2 ^ 32) fits)
+limited-fits : (minus : Bool) (n : ℕ) (name : Option (List ℕ)) (tokens : List Token) → n ≤ MOST_SUM_NUMBER → limited_item minus n name tokens ≡ Some (record { minus = minus; number = n; name = name }, tokens)
+limited-fits minus n name tokens fits = cond-true _ _ _ (le-leb n MOST_SUM_NUMBER fits)
 
 abbrev ReadsItem : Bool → List Token → List Token → RawItem → Type 0
 ReadsItem minus tokens rest x = (x.minus ≡ minus) × ((front : List Token) × (tokens ≡ front ++ rest) × IsItem x front)
 
-read_limited : (minus : Bool) (n : ℕ) (name : Option (List ℕ)) (front tokens rest : List Token) (x : RawItem) → limited_item minus n name tokens ≡ Some (x, rest) → (n < 2 ^ 32 → IsTimes n name front) → ReadsItem minus (front ++ tokens) rest x
+read_limited : (minus : Bool) (n : ℕ) (name : Option (List ℕ)) (front tokens rest : List Token) (x : RawItem) → limited_item minus n name tokens ≡ Some (x, rest) → (n ≤ MOST_SUM_NUMBER → IsTimes n name front) → ReadsItem minus (front ++ tokens) rest x
 read_limited minus n name front tokens rest x is times =
     let found = limited-is minus n name tokens rest x is in
     subst (ReadsItem minus (front ++ tokens) rest) (sym found.1) (refl, (front, ap (λ t. front ++ t) found.2, times found.0))
@@ -138,16 +139,16 @@ sound_sum tokens rest x is =
     let first = first_sign tokens in
     let read = mapped-some as_sum (items_at first.0 first.1) (x, rest) is in
     let read_is : items_at first.0 first.1 ≡ Some (x.items, rest) = read.1 ∙ ap (λ q. Some (q.0.items, q.1)) read.2 in
-    let found = sound_list IsItem sign (λ i. i.minus) item_at sign_at (λ s ts r i e. sound_item s ts r i e) joins_sign 8 first.0 first.1 rest x.items read_is in
+    let found = sound_list IsItem sign (λ i. i.minus) item_at sign_at (λ s ts r i e. sound_item s ts r i e) joins_sign MOST_ITEMS first.0 first.1 rest x.items read_is in
     let all = sound_signed IsItem (λ i. i.minus) x.items rest tokens found in
-    (all.0, all.1, record { items = all.2; at_most = list_few item_at sign_at 8 first.0 first.1 x.items rest read_is })
+    (all.0, all.1, record { items = all.2; at_most = list_few item_at sign_at MOST_ITEMS first.0 first.1 x.items rest read_is })
 
 pub complete_sum : (front rest : List Token) (x : RawSum) → IsSum x front → Stops rest → sum_at (front ++ rest) ≡ Some (x, rest)
 unfolding sum_at
 complete_sum front rest x is stops =
     let read = complete_signed IsItem (λ i. i.minus) (λ i ts e. times_some i.number i.name ts e) items_at x.items front rest
     (λ s tail below spread. complete_list IsItem sign (λ i. i.minus) item_at sign_at NoStar (suc (length (front ++ rest)))
-    (λ b f r i e it free _. complete_item b f r i e it free) sign_no_star joined_sign x.items 8 s tail rest is.at_most spread (Stops-star rest stops) (Stops-sign rest stops) (omega arith))
+    (λ b f r i e it free _. complete_item b f r i e it free) sign_no_star joined_sign x.items MOST_ITEMS s tail rest is.at_most spread (Stops-star rest stops) (Stops-sign rest stops) (omega arith))
     is.items in
     ap (option_map as_sum) read
 

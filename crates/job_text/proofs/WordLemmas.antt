@@ -13,7 +13,7 @@ use Rattle.bern_base.specs.declared.raw.RawShape.TheVariants as shape
 use Rattle.job_text.specs.Names.{is_name, is_file_name, IsNumber, is_numeral}
 use Rattle.job_text.specs.Reading.{value_of, number_of}
 use Rattle.job_text.specs.Forms.{IsName, IsFileName, IsAxis, IsInnerAxis, AreLevels}
-use Rattle.job_text.specs.WordReading.{name_of, file_of, axis_of, is_inner, behind_dense, behind_packed, two_of, one_of, inner_of, axes_of, are_permuted, permute_of, jagged_of}
+use Rattle.job_text.specs.WordReading.{name_of, file_of, axis_of, is_inner, under_dense, under_packed, two_of, one_of, inner_of, axes_of, are_permuted, permute_of, jagged_of}
 use Rattle.job_text.proofs.NumberLemmas.{limited-fits, limited-some}
 use Rattle.job_text.proofs.TokenLemmas.{mapped-some}
 use Rattle.job_text.proofs.SumLemmas.{bound-some}
@@ -89,11 +89,11 @@ sound_two outer a first b second s is_outer is_inside is = ⊎_elim
     subst (λ x. AreLevels x (a ∷ first ∷ codes ">" ∷ b ∷ second ∷ [])) (same_Some (shape.DensePacked outer) s last.1)
     (a, b, spelled (codes "dense") (codes "packed") dense.0 last.0, is_outer, is_inside))
     (by_word second (codes "dense") (Some (shape.DenseDense outer)) (cond (bytes_eq second (codes "packed")) (Some (shape.DensePacked outer)) None) s dense.1))
-    (λ rest. let packed = only_word first (codes "packed") (behind_packed outer second) s rest in
+    (λ rest. let packed = only_word first (codes "packed") (under_packed outer second) s rest in
     let last = only_word second (codes "packed") (Some (shape.PackedPacked outer)) s packed.1 in
     subst (λ x. AreLevels x (a ∷ first ∷ codes ">" ∷ b ∷ second ∷ [])) (same_Some (shape.PackedPacked outer) s last.1)
     (a, b, spelled (codes "packed") (codes "packed") packed.0 last.0, is_outer, is_inside))
-    (by_word first (codes "dense") (behind_dense outer second) (cond (bytes_eq first (codes "packed")) (behind_packed outer second) None) s is)
+    (by_word first (codes "dense") (under_dense outer second) (cond (bytes_eq first (codes "packed")) (under_packed outer second) None) s is)
   where
     spelled : (f g : List ℕ) → first ≡ f → second ≡ g → ◌≡◌ {A = List (List ℕ)} (a ∷ first ∷ codes ">" ∷ b ∷ second ∷ []) (a ∷ f ∷ codes ">" ∷ b ∷ g ∷ [])
     spelled f g one two = ap (λ w. a ∷ w ∷ codes ">" ∷ b ∷ second ∷ []) one ∙ ap (λ w. a ∷ f ∷ codes ">" ∷ b ∷ w ∷ []) two

@@ -43,9 +43,11 @@ IsInnerAxis axis.Both word = ⊥
 abbrev pub AreTwo : Axis → List ℕ → List ℕ → List (List ℕ) → Type 0
 AreTwo outer first second words = (a b : List ℕ) × (words ≡ a ∷ first ∷ codes ">" ∷ b ∷ second ∷ []) × IsAxis outer a × IsInnerAxis outer b
 
--- a number, or one behind a minus
+-- a number, or one after a minus
 abbrev pub IsOffset : ℤ → List ℕ → Type 0
-IsOffset offset word = ((n : ℕ) × IsNumber n word × (offset ≡ pos n)) ⊎ ((n : ℕ) × (digits : List ℕ) × (word ≡ 45 ∷ digits) × IsNumber n digits × (offset ≡ neg_ℤ (pos n)))
+IsOffset offset word =
+    ((n : ℕ) × IsNumber n word × (offset ≡ pos n))
+    ⊎ ((n : ℕ) × (digits : List ℕ) × (word ≡ 45 ∷ digits) × IsNumber n digits × (offset ≡ neg_ℤ (pos n)))
 
 -- each above the one before it
 abbrev pub Rise : List ℤ → Type 0
@@ -86,10 +88,12 @@ IsSource (Some file) words = (words ≡ codes "from" ∷ file ∷ []) × IsFileN
 
 -- the lines other than nests, by their words
 abbrev pub IsWordForm : Form → List (List ℕ) → Type 0
-IsWordForm (form.Extent name size) words = (number : List ℕ) × (words ≡ codes "extent" ∷ name ∷ number ∷ []) × IsName name × IsNumber size number
+IsWordForm (form.Extent name size) words =
+    (number : List ℕ) × (words ≡ codes "extent" ∷ name ∷ number ∷ []) × IsName name × IsNumber size number
 IsWordForm (form.Place name extent dealt) words =
     (rest : List (List ℕ)) × (words ≡ codes "place" ∷ name ∷ extent ∷ rest) × IsName name × IsName extent × IsKind dealt rest
-IsWordForm (form.Format name levels) words = (rest : List (List ℕ)) × (words ≡ codes "format" ∷ name ∷ rest) × IsName name × AreLevels levels rest
+IsWordForm (form.Format name levels) words =
+    (rest : List (List ℕ)) × (words ≡ codes "format" ∷ name ∷ rest) × IsName name × AreLevels levels rest
 IsWordForm (form.Array name extents format split place file) words =
     (sizes side : List ℕ) × (rest : List (List ℕ)) × (words ≡ codes "array" ∷ name ∷ sizes ∷ format ∷ side ∷ codes "by" ∷ place ∷ rest)
     × IsName name × AreExtents extents sizes × IsName format × IsAxis split side × IsName place × IsSource file rest

@@ -1,5 +1,6 @@
 -- The grammar of nest lines, as relations between what is meant and a whole list of tokens.
-use Rattle.std.specs.Prelude.{◌≡◌, ℕ, ◌^◌, ◌<◌, ◌≤◌, ◌⊎◌, Bool, true, false, Option, Some, None, List, [], ◌∷◌, ◌++◌, length, zero, suc, ◌≢◌}
+use Rattle.std.specs.Prelude.{◌≡◌, ℕ, ◌≤◌, ◌⊎◌, Bool, true, false, Option, Some, None, List, [], ◌∷◌, ◌++◌, length, zero, suc, ◌≢◌}
+use Rattle.bern_base.specs.declared.limits.TheConstants.{EXPRESSION_LEVELS, MOST_ITEMS, MOST_SUM_NUMBER}
 use Rattle.bern_base.specs.declared.raw.RawItem.{RawItem}
 use Rattle.bern_base.specs.declared.raw.RawSum.{RawSum}
 use Rattle.bern_base.specs.declared.raw.RawRef.{RawRef}
@@ -21,7 +22,7 @@ abbrev pub Spread : {A : Type 0} → (A → List Token → Type 0) → List A �
 Spread Is [] tokens = tokens ≡ []
 Spread Is (x ∷ xs) tokens = (front back : List Token) × (tokens ≡ front ++ back) × Is x front × Spread Is xs back
 
--- a thing behind the token that leads it
+-- a thing after the token that leads it
 abbrev pub Led : {A : Type 0} → (A → Token) → (A → List Token → Type 0) → A → List Token → Type 0
 Led lead Is x tokens = (rest : List Token) × (tokens ≡ lead x ∷ rest) × Is x rest
 
@@ -36,9 +37,9 @@ with_sign tokens = Mark m.Plus ∷ tokens
 
 -- a number, a multiple of a name, or a name alone, which stands for one of it
 abbrev pub IsTimes : ℕ → Option (List ℕ) → List Token → Type 0
-IsTimes n None tokens = (n < 2 ^ 32) × (tokens ≡ Num n ∷ [])
+IsTimes n None tokens = (n ≤ MOST_SUM_NUMBER) × (tokens ≡ Num n ∷ [])
 IsTimes n (Some name) tokens =
-    ((n < 2 ^ 32) × (tokens ≡ Num n ∷ Mark m.Star ∷ Name name ∷ [])) ⊎ ((n ≡ 1) × (tokens ≡ Name name ∷ []))
+    ((n ≤ MOST_SUM_NUMBER) × (tokens ≡ Num n ∷ Mark m.Star ∷ Name name ∷ [])) ⊎ ((n ≡ 1) × (tokens ≡ Name name ∷ []))
 
 abbrev pub IsItem : RawItem → List Token → Type 0
 IsItem item tokens = IsTimes item.number item.name tokens
@@ -46,10 +47,10 @@ IsItem item tokens = IsTimes item.number item.name tokens
 abbrev pub item_sign : RawItem → Token
 item_sign item = sign item.minus
 
--- items behind their signs, at most 8
+-- items, each after its sign, at most as many as a sum may have
 pub record IsSum (sum : RawSum) (tokens : List Token) : Type 0 where
   pub items : Spread (Led item_sign IsItem) sum.items (with_sign tokens)
-  pub at_most : length sum.items ≤ 8
+  pub at_most : length sum.items ≤ MOST_ITEMS
 
 -- one subscript, or two with a comma between them
 abbrev pub AreSubs : List RawSum → List Token → Type 0
@@ -79,7 +80,7 @@ module _ (Inner : RawExpr → List Token → Type 0) where
 abbrev pub product_sign : RawProduct → Token
 product_sign product = sign product.minus
 
--- products behind their signs; what stands in parentheses has a level less
+-- products, each after its sign; what stands in parentheses has a level less
 unfoldable pub IsExpr : ℕ → RawExpr → List Token → Type 0
 IsExpr zero expr tokens = ⊥
 IsExpr (suc levels) expr tokens = Spread (Led product_sign (IsProduct (IsExpr levels))) (out-RawExpr expr).sums (with_sign tokens)
@@ -100,23 +101,21 @@ comparison rel.Eq = Mark m.Eq
 comparison rel.Ne = Mark m.Ne
 
 abbrev pub IsGuard : RawGuard → List Token → Type 0
-IsGuard guard tokens = (left right : List Token) × (tokens ≡ left ++ comparison guard.rel ∷ right) × IsSum guard.left left × IsSum guard.right right
+IsGuard guard tokens =
+    (left right : List Token) × (tokens ≡ left ++ comparison guard.rel ∷ right) × IsSum guard.left left × IsSum guard.right right
 
 abbrev pub comma : RawGuard → Token
 comma guard = Mark m.Comma
 
--- nothing, or guards behind `where` with commas between them: as though a comma led the first one too
+-- nothing, or guards after `where` with commas between them: as though a comma led the first one too
 abbrev pub AreGuards : List RawGuard → List Token → Type 0
 AreGuards [] tokens = tokens ≡ []
-AreGuards (guard ∷ guards) tokens = (rest : List Token) × (tokens ≡ Mark m.Where ∷ rest) × Spread (Led comma IsGuard) (guard ∷ guards) (Mark m.Comma ∷ rest)
+AreGuards (guard ∷ guards) tokens =
+    (rest : List Token) × (tokens ≡ Mark m.Where ∷ rest) × Spread (Led comma IsGuard) (guard ∷ guards) (Mark m.Comma ∷ rest)
 
 abbrev pub assignment : Bool → Token
 assignment true = Mark m.Assign
 assignment false = Mark m.Add
-
--- how deep expressions may stand in one another: 16 pairs of parentheses
-abbrev pub levels : ℕ
-levels = 17
 
 -- a nest is `doany`, one or more variables, its guards, a colon, the target, `=` or `+=`, and the body
 pub record IsNest (nest : RawNest) (tokens : List Token) : Type 0 where
@@ -129,4 +128,4 @@ pub record IsNest (nest : RawNest) (tokens : List Token) : Type 0 where
   pub some_vars : nest.vars ≢ []
   pub are_guards : AreGuards nest.guards guards
   pub is_target : IsRef nest.target target
-  pub is_body : IsExpr levels nest.body body
+  pub is_body : IsExpr EXPRESSION_LEVELS nest.body body

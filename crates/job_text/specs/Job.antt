@@ -1,8 +1,12 @@
 -- What a job text means: the forms of its lines up to the first one that has none.
 use Rattle.std.specs.Prelude.{◌≡◌, ◌+◌, ◌++◌, MatchBool, ℕ, Option, Some, None, List, [], ◌∷◌, if◌then◌else◌}
+use Rattle.std.specs.List.{All}
+use Rattle.bern_base.specs.declared.limits.TheConstants.{EXPRESSION_LEVELS}
 use Rattle.bern_base.specs.declared.raw.Form.{Form}
+use Rattle.bern_base.specs.declared.raw.Form.TheVariants as form
 use Rattle.bern_base.specs.declared.raw.JobLine.{JobLine}
 use Rattle.bern_base.specs.declared.raw.JobText.{JobText}
+use Rattle.bern_base.specs.RawDepth.{IsShallow}
 use Rattle.job_text.specs.Lines.{lines, said, is_some_text}
 use Rattle.job_text.specs.Forms.{IsForm}
 
@@ -39,7 +43,18 @@ HasOneForm = (text : List ℕ) (a b : Form) → IsForm a text → IsForm b text 
 abbrev pub HasOneMeaning : Type 0
 HasOneMeaning = (bytes : List ℕ) (a b : JobText) → IsJob bytes a → IsJob bytes b → a ≡ b
 
+-- in a nest at most 16 pairs of parentheses stand in one another
+abbrev pub IsShallowForm : Form → Type 0
+IsShallowForm (form.Nest nest) = IsShallow EXPRESSION_LEVELS nest.body
+IsShallowForm other = Unit {0}
+
+-- and so it is in each form of a job
+abbrev pub JobsAreShallow : Type 0
+JobsAreShallow = (bytes : List ℕ) (job : JobText) → IsJob bytes job → All (λ line. IsShallowForm line.form) job.lines
+
 -- what a line adds to the forms so far: nothing where it says nothing
 abbrev pub AddsLine : ℕ → List ℕ → List JobLine → List JobLine → Type 0
 AddsLine number text old new =
-    MatchBool (is_some_text text) ((form : Form) × (new ≡ old ++ record { number = number; form = form } ∷ []) × IsForm form text) (new ≡ old)
+    MatchBool (is_some_text text)
+    ((form : Form) × (new ≡ old ++ record { number = number; form = form } ∷ []) × IsForm form text)
+    (new ≡ old)

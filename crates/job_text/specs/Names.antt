@@ -18,7 +18,8 @@ is_name_byte byte = is_name_start byte || is_digit byte
 -- the words that are no names: those that begin a line, those that join the parts of one, those of places and of levels
 abbrev pub line_words : List (List ℕ)
 line_words =
-    codes "extent" ∷ codes "place" ∷ codes "format" ∷ codes "array" ∷ codes "doany" ∷ codes "print" ∷ codes "repeat" ∷ codes "end" ∷ codes "move" ∷ []
+    codes "extent" ∷ codes "place" ∷ codes "format" ∷ codes "array" ∷ codes "doany" ∷ codes "print"
+    ∷ codes "repeat" ∷ codes "end" ∷ codes "move" ∷ []
 
 abbrev pub joining_words : List (List ℕ)
 joining_words = codes "where" ∷ codes "from" ∷ codes "zero" ∷ codes "by" ∷ codes "on" ∷ codes "to" ∷ []
@@ -28,8 +29,8 @@ place_words = codes "block" ∷ codes "cyclic" ∷ codes "listed" ∷ []
 
 abbrev pub level_words : List (List ℕ)
 level_words =
-    codes "row" ∷ codes "col" ∷ codes "dense" ∷ codes "packed" ∷ codes "list" ∷ codes "jagged" ∷ codes "diagonal" ∷ codes "permute" ∷ codes "blocks"
-    ∷ codes "hashed" ∷ []
+    codes "row" ∷ codes "col" ∷ codes "dense" ∷ codes "packed" ∷ codes "list" ∷ codes "jagged" ∷ codes "diagonal" ∷ codes "permute"
+    ∷ codes "blocks" ∷ codes "hashed" ∷ []
 
 abbrev pub is_among : List (List ℕ) → List ℕ → Bool
 is_among words word = list_any (bytes_eq word) words

@@ -1,5 +1,6 @@
 -- What the readers of nest lines answer: what stands at the front of a list of tokens, and the tokens that are left.
-use Rattle.std.specs.Prelude.{ℕ, ◌^◌, Bool, true, false, Option, Some, None, option_map, option_and_then, List, [], ◌∷◌, ◌++◌, zero, suc, nat_lt, if◌then◌else◌}
+use Rattle.std.specs.Prelude.{ℕ, Bool, true, false, Option, Some, None, option_map, option_and_then, List, [], ◌∷◌, ◌++◌, zero, suc, nat_le, if◌then◌else◌}
+use Rattle.bern_base.specs.declared.limits.TheConstants.{EXPRESSION_LEVELS, MOST_ITEMS, MOST_SUM_NUMBER}
 use Rattle.bern_base.specs.declared.raw.RawItem.{RawItem}
 use Rattle.bern_base.specs.declared.raw.RawSum.{RawSum}
 use Rattle.bern_base.specs.declared.raw.RawRef.{RawRef}
@@ -47,7 +48,8 @@ first_sign (Mark m.Minus ∷ tokens) = (true, tokens)
 first_sign tokens = (false, tokens)
 
 abbrev pub limited_item : Bool → ℕ → Option (List ℕ) → List Token → Reads RawItem
-limited_item minus n name tokens = if nat_lt n (2 ^ 32) then Some (record { minus = minus; number = n; name = name }, tokens) else None
+limited_item minus n name tokens =
+    if nat_le n MOST_SUM_NUMBER then Some (record { minus = minus; number = n; name = name }, tokens) else None
 
 unfoldable pub item_at : Bool → List Token → Reads RawItem
 item_at minus (Num n ∷ Mark m.Star ∷ Name name ∷ tokens) = limited_item minus n (Some name) tokens
@@ -56,7 +58,7 @@ item_at minus (Name name ∷ tokens) = Some (record { minus = minus; number = 1;
 item_at minus tokens = None
 
 abbrev pub items_at : Bool → List Token → Reads (List RawItem)
-items_at minus tokens = list_at item_at sign_at 8 minus tokens
+items_at minus tokens = list_at item_at sign_at MOST_ITEMS minus tokens
 
 abbrev pub as_sum : List RawItem × List Token → RawSum × List Token
 as_sum p = (record { items = p.0 }, p.1)
@@ -175,7 +177,7 @@ ended_at x [] = Some x
 ended_at x (token ∷ tokens) = None
 
 unfoldable pub whole_at : ℕ → List Token → Option RawExpr
-whole_at n tokens = option_and_then (λ p. ended_at p.0 p.1) (expr_at n 17 tokens)
+whole_at n tokens = option_and_then (λ p. ended_at p.0 p.1) (expr_at n EXPRESSION_LEVELS tokens)
 
 abbrev pub assign_at : List Token → Reads Bool
 assign_at (Mark m.Assign ∷ tokens) = Some (true, tokens)

@@ -19,8 +19,8 @@ Gives view (Err e) read = Fails e read
 abbrev pub seen : {A B : Type 0} → A × Bor B → A × B
 seen p = (p.0, p.1.now)
 
-abbrev pub behind : {B : Type 0} → Bor B → Unit {0} × B
-behind rest = (tt, rest.now)
+abbrev pub following : {B : Type 0} → Bor B → Unit {0} × B
+following rest = (tt, rest.now)
 
 abbrev pub named : {A B : Type 0} → Bor A × Bor B → A × B
 named p = (p.0.now, p.1.now)

@@ -10,14 +10,14 @@ use Rattle.job_text.specs.Names.{is_digit, is_name_start, is_name_byte, is_name}
 use Rattle.job_text.specs.Marks.{double_mark, single_mark}
 use Rattle.job_text.specs.Reading.{number_of}
 
--- a run of digits, taken whole
+-- the digits at the front, taken whole
 abbrev pub digits_end : List ℕ → ℕ
 digits_end text = position_or_len (λ byte. not (is_digit byte)) text
 
 abbrev pub number_at : List ℕ → Option (Token × List ℕ)
 number_at text = option_map (λ n. (Num n, drop (digits_end text) text)) (number_of (take (digits_end text) text))
 
--- a run of letters, digits and `_`, taken whole: a name, or one of the two words of nest lines
+-- the letters, digits and `_` at the front, taken whole: a name, or one of the two words of nest lines
 abbrev pub word_end : List ℕ → ℕ
 word_end text = position_or_len (λ byte. not (is_name_byte byte)) text
 

@@ -33,7 +33,8 @@ kind_of (word ∷ which ∷ []) =
 kind_of words = None
 
 unfoldable pub place_of : List (List ℕ) → Option Form
-place_of (name ∷ extent ∷ rest) = option_and_then (λ n. option_and_then (λ e. option_map (form.Place n e) (kind_of rest)) (name_of extent)) (name_of name)
+place_of (name ∷ extent ∷ rest) =
+    option_and_then (λ n. option_and_then (λ e. option_map (form.Place n e) (kind_of rest)) (name_of extent)) (name_of name)
 place_of words = None
 
 unfoldable pub print_of : List (List ℕ) → Option Form
@@ -48,16 +49,18 @@ is_inner axis.Row word = bytes_eq word (codes "col")
 is_inner axis.Col word = bytes_eq word (codes "row")
 is_inner axis.Both word = false
 
-abbrev pub behind_dense : Axis → List ℕ → Option RawShape
-behind_dense outer second =
-    if bytes_eq second (codes "dense") then Some (shape.DenseDense outer) else if bytes_eq second (codes "packed") then Some (shape.DensePacked outer) else None
+abbrev pub under_dense : Axis → List ℕ → Option RawShape
+under_dense outer second =
+    if bytes_eq second (codes "dense") then Some (shape.DenseDense outer)
+    else if bytes_eq second (codes "packed") then Some (shape.DensePacked outer) else None
 
-abbrev pub behind_packed : Axis → List ℕ → Option RawShape
-behind_packed outer second = if bytes_eq second (codes "packed") then Some (shape.PackedPacked outer) else None
+abbrev pub under_packed : Axis → List ℕ → Option RawShape
+under_packed outer second = if bytes_eq second (codes "packed") then Some (shape.PackedPacked outer) else None
 
 abbrev pub two_of : Axis → List ℕ → List ℕ → Option RawShape
 two_of outer first second =
-    if bytes_eq first (codes "dense") then behind_dense outer second else if bytes_eq first (codes "packed") then behind_packed outer second else None
+    if bytes_eq first (codes "dense") then under_dense outer second
+    else if bytes_eq first (codes "packed") then under_packed outer second else None
 
 abbrev pub one_of : List ℕ → Option RawShape
 one_of level =
@@ -79,10 +82,12 @@ axes_of words = None
 
 abbrev pub are_permuted : List ℕ → List ℕ → List ℕ → List ℕ → List ℕ → Bool
 are_permuted outer first above inner second =
-    bytes_eq outer (codes "row") && bytes_eq first (codes "dense") && bytes_eq above (codes ">") && bytes_eq inner (codes "col") && bytes_eq second (codes "packed")
+    bytes_eq outer (codes "row") && bytes_eq first (codes "dense") && bytes_eq above (codes ">")
+    && bytes_eq inner (codes "col") && bytes_eq second (codes "packed")
 
 unfoldable pub permute_of : List (List ℕ) → Option RawShape
-permute_of (file ∷ outer ∷ first ∷ above ∷ inner ∷ second ∷ []) = if are_permuted outer first above inner second then option_map shape.Permute (file_of file) else None
+permute_of (file ∷ outer ∷ first ∷ above ∷ inner ∷ second ∷ []) =
+    if are_permuted outer first above inner second then option_map shape.Permute (file_of file) else None
 permute_of words = None
 
 abbrev pub jagged_of : List (List ℕ) → Option RawShape
@@ -111,7 +116,8 @@ onto front more = front ++ more
 
 unfoldable pub offsets_from : Option ℤ → List (List ℕ) → Option (List ℤ)
 offsets_from last [] = Some []
-offsets_from last (word ∷ words) = option_and_then (λ next. option_map (onto (next ∷ [])) (offsets_from (Some next) words)) (next_offset last word)
+offsets_from last (word ∷ words) =
+    option_and_then (λ next. option_map (onto (next ∷ [])) (offsets_from (Some next) words)) (next_offset last word)
 
 abbrev pub offsets_of : List (List ℕ) → Option (List ℤ)
 offsets_of [] = None
@@ -120,7 +126,8 @@ offsets_of (word ∷ words) = offsets_from None (word ∷ words)
 unfoldable pub levels_of : List (List ℕ) → Option RawShape
 levels_of [] = None
 levels_of (key ∷ rest) =
-    if bytes_eq key (codes "jagged") then jagged_of rest else if bytes_eq key (codes "diagonal") then option_map shape.Diagonal (offsets_of rest)
+    if bytes_eq key (codes "jagged") then jagged_of rest
+    else if bytes_eq key (codes "diagonal") then option_map shape.Diagonal (offsets_of rest)
     else if bytes_eq key (codes "permute") then permute_of rest else axes_of (key ∷ rest)
 
 unfoldable pub format_of : List (List ℕ) → Option Form
@@ -154,7 +161,8 @@ source_of words = None
 
 -- the parts of an array line, one after the other
 abbrev pub placed_of : List ℕ → List (List ℕ) → List ℕ → List ℕ → List (List ℕ) → Axis → Option Form
-placed_of name extents format place rest split = option_and_then (λ p. option_map (form.Array name extents format split p) (source_of rest)) (name_of place)
+placed_of name extents format place rest split =
+    option_and_then (λ p. option_map (form.Array name extents format split p) (source_of rest)) (name_of place)
 
 abbrev pub split_of : List ℕ → List (List ℕ) → List ℕ → List ℕ → List (List ℕ) → List ℕ → Option Form
 split_of name extents side place rest format = option_and_then (placed_of name extents format place rest) (axis_of side)

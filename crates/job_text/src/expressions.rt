@@ -1,6 +1,6 @@
 ghost use Rattle.std.specs.Prelude.{◌≡◌, ◌<◌, ℕ, option_map, length, IfOk, IfSome};
 ghost use Rattle.job_text.specs.NestReading.{list_at, sign_at, star_at, factor_at, factors_at, product_at, products_at, expr_at};
-ghost use Rattle.job_text.specs.Reading.{Gives, seen, behind};
+ghost use Rattle.job_text.specs.Reading.{Gives, seen, following};
 
 use crate::lists::{with_last, with_next};
 use crate::stop::Stop;
@@ -9,7 +9,7 @@ use crate::tokens::{Mark, Token};
 use bern_base::{Items, RawExpr, RawFactor, RawProduct};
 use std::alloc::Global;
 
-/// Products behind their signs, with parentheses at most this many levels deep, itself counted.
+/// Products, each after its sign, with parentheses at most this many levels deep, itself counted.
 #[cycle(expression)]
 #[tactic(auto, unfolding(crate::specs::NestReading::expr_at))]
 pub(crate) fn expression<'a>(
@@ -123,7 +123,7 @@ fn factor<'a>(
 
 /// What follows the star that joins the next factor.
 fn next_star(tokens: &[Token]) -> Option<&[Token]>
-    ensures value { option_map behind result ≡ star_at tokens.now }
+    ensures value { option_map following result ≡ star_at tokens.now }
     ensures shorter { IfSome result (λ next. length next.now < length tokens.now) }
 {
     match tokens {

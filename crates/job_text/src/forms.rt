@@ -8,6 +8,7 @@ use crate::names::{is_file_name, is_name};
 use crate::numbers::number;
 use crate::pieces::Piece;
 use crate::stop::Stop;
+use crate::words::is;
 use bern_base::{Axis, Form, Items, RawKind, Text};
 use std::alloc::Global;
 
@@ -19,15 +20,15 @@ pub(crate) fn word_form(alloc: Global, words: &[Piece]) -> Result<Form, Stop>
     match words {
         [key, rest @ ..] => {
             let key = key.bytes();
-            if key == b"extent".as_slice() {
+            if is(key, b"extent") {
                 extent(alloc, rest)
-            } else if key == b"place".as_slice() {
+            } else if is(key, b"place") {
                 place(alloc, rest)
-            } else if key == b"format".as_slice() {
+            } else if is(key, b"format") {
                 format(alloc, rest)
-            } else if key == b"array".as_slice() {
+            } else if is(key, b"array") {
                 array(alloc, rest)
-            } else if key == b"print".as_slice() {
+            } else if is(key, b"print") {
                 print(alloc, rest)
             } else {
                 Err(Stop::NoForm)
@@ -75,7 +76,7 @@ fn kind(alloc: Global, words: &[Piece]) -> Result<RawKind, Stop>
 {
     match words {
         [word] => {
-            if word.bytes() == b"block".as_slice() {
+            if is(word.bytes(), b"block") {
                 Ok(RawKind::Block)
             } else {
                 Err(Stop::NoForm)
@@ -83,10 +84,10 @@ fn kind(alloc: Global, words: &[Piece]) -> Result<RawKind, Stop>
         }
         [word, which] => {
             let word = word.bytes();
-            if word == b"cyclic".as_slice() {
+            if is(word, b"cyclic") {
                 let block = number(which.bytes()).ok_or(Stop::NoForm)?;
                 Ok(RawKind::Cyclic(block))
-            } else if word == b"listed".as_slice() {
+            } else if is(word, b"listed") {
                 let file = file_text(alloc, which.bytes())?;
                 Ok(RawKind::Listed(file))
             } else {
@@ -119,7 +120,7 @@ fn array(alloc: Global, words: &[Piece]) -> Result<Form, Stop>
 {
     match words {
         [name, sizes, format, side, by, place, rest @ ..] => {
-            if by.bytes() == b"by".as_slice() {
+            if is(by.bytes(), b"by") {
                 let name = name_text(alloc, name.bytes())?;
                 let extents = extents(alloc, sizes.bytes())?;
                 let format = name_text(alloc, format.bytes())?;
@@ -149,14 +150,14 @@ fn source(alloc: Global, words: &[Piece]) -> Result<Option<Text>, Stop>
 {
     match words {
         [word] => {
-            if word.bytes() == b"zero".as_slice() {
+            if is(word.bytes(), b"zero") {
                 Ok(None)
             } else {
                 Err(Stop::NoForm)
             }
         }
         [word, file] => {
-            if word.bytes() == b"from".as_slice() {
+            if is(word.bytes(), b"from") {
                 let file = file_text(alloc, file.bytes())?;
                 Ok(Some(file))
             } else {
@@ -173,17 +174,15 @@ fn extents(alloc: Global, word: &[u8]) -> Result<Items<Text>, Stop>
     ensures { Gives (λ names. names) result (extents_of word.now) }
 {
     let comma = comma_place(word);
-    let mut names = Items::new(alloc);
     if comma < word.len() {
         let rows = name_text(alloc, &word[..comma])?;
         let cols = name_text(alloc, &word[comma + 1..])?;
-        names.push(rows)?;
-        names.push(cols)?;
-        Ok(names)
+        let names = vec![in alloc; rows, cols]?;
+        Ok(Items::from_vec(names))
     } else {
         let only = name_text(alloc, word)?;
-        names.push(only)?;
-        Ok(names)
+        let names = vec![in alloc; only]?;
+        Ok(Items::from_vec(names))
     }
 }
 
@@ -213,9 +212,9 @@ fn print(alloc: Global, words: &[Piece]) -> Result<Form, Stop>
 pub(crate) fn axis(word: &[u8]) -> Option<Axis>
     ensures { result ≡ axis_of word.now }
 {
-    if word == b"row".as_slice() {
+    if is(word, b"row") {
         Some(Axis::Row)
-    } else if word == b"col".as_slice() {
+    } else if is(word, b"col") {
         Some(Axis::Col)
     } else {
         None

@@ -1,35 +1,35 @@
 ghost use Rattle.std.specs.Prelude.{◌≡◌, ◌<◌, ◌↔◌, true, length, OnOk, IfOk, IsErrOf};
 ghost use Rattle.job_text.specs.Lines.{said, is_some_text};
-ghost use Rattle.job_text.specs.Job.{HasNoForm, IsJob, AddsLine, HasOneForm, HasOneMeaning};
+ghost use Rattle.job_text.specs.Job.{HasNoForm, IsJob, AddsLine};
 
 use crate::line_forms::line_form;
 use crate::lines::{is_some_text, lines, said};
 use crate::stop::Stop;
 use crate::tokens::Token;
-use bern_base::{Items, JobLine, JobText, NoMemory};
+use bern_base::{Items, JobLine, JobText, MOST_JOB_BYTES, NoMemory};
 use std::alloc::Global;
 use thiserror::Error;
 
-/// How many bytes a job text may have.
-const LIMIT: usize = 1_048_576;
-
-/// Why a job text was not read.
+/// Why a job text was not read. What was given is as it was.
 #[derive(Clone, Copy, Debug, PartialEq, Eq, Error)]
 pub enum JobError {
+    /// The text has more than [`MOST_JOB_BYTES`] bytes.
     #[error("the job has more than 1048576 bytes")]
     TooLong,
+    /// There was no memory for the lines, the words or tokens of a line, or the forms.
     #[error("out of memory")]
     NoMemory,
 }
 
 /// Reads a job text: the forms of its lines up to the first line that has none, and that line's number.
 ///
-/// Lines count from 1; those that say nothing are left out. A line without a form is no error: its number is `broken`.
+/// Lines count from 1, by their feeds; those with nothing but blanks and a comment are left out, and count. A line without a
+/// form is no error: its number is `broken`, and no line after it is read. A text has at most [`MOST_JOB_BYTES`] bytes.
 pub fn read_job(alloc: Global, bytes: &[u8]) -> Result<JobText, JobError>
     ensures job { IfOk result (λ job. IsJob bytes.now job) }
-    ensures too_long { IsErrOf result JobError.TooLong ↔ (1048576 < length bytes.now) }
+    ensures too_long { IsErrOf result JobError.TooLong ↔ (MOST_JOB_BYTES < length bytes.now) }
 {
-    if bytes.len() > LIMIT {
+    if bytes.len() > MOST_JOB_BYTES {
         return Err(JobError::TooLong);
     }
     match read_lines(alloc, bytes) {
@@ -37,16 +37,6 @@ pub fn read_job(alloc: Global, bytes: &[u8]) -> Result<JobText, JobError>
         Err(_) => Err(JobError::NoMemory),
     }
 }
-
-/// The law that the grammar gives a text one form at most. It does nothing.
-pub fn a_text_has_one_form()
-    ensures { HasOneForm }
-{}
-
-/// The law that bytes have one meaning as a job. It does nothing.
-pub fn bytes_have_one_meaning()
-    ensures { HasOneMeaning }
-{}
 
 fn read_lines(alloc: Global, bytes: &[u8]) -> Result<JobText, NoMemory>
     ensures { IfOk result (λ job. IsJob bytes.now job) }
@@ -84,7 +74,8 @@ fn add_line(
     line: &[u8],
 ) -> Result<(), Stop>
     ensures ok { OnOk result (AddsLine number (said line.now) forms.old forms.new) }
-    ensures none { IsErrOf result Stop.NoForm → (forms.new ≡ forms.old) × (is_some_text (said line.now) ≡ true) × HasNoForm (said line.now) }
+    ensures same { IsErrOf result Stop.NoForm → forms.new ≡ forms.old }
+    ensures none { IsErrOf result Stop.NoForm → (is_some_text (said line.now) ≡ true) × HasNoForm (said line.now) }
 {
     let text = said(line);
     if !is_some_text(text) {

@@ -1,11 +1,12 @@
 ghost use Rattle.std.specs.Prelude.{◌≡◌};
-ghost use Rattle.job_text.specs.WordReading.{is_inner, behind_dense, behind_packed, two_of, one_of, list_of, inner_of, axes_of, are_permuted, permute_of, jagged_of, levels_of};
+ghost use Rattle.job_text.specs.WordReading.{is_inner, under_dense, under_packed, two_of, one_of, list_of, inner_of, axes_of, are_permuted, permute_of, jagged_of, levels_of};
 ghost use Rattle.job_text.specs.Reading.{Gives};
 
 use crate::forms::{axis, file_text};
 use crate::offsets::offsets;
 use crate::pieces::Piece;
 use crate::stop::Stop;
+use crate::words::is;
 use bern_base::{Axis, RawShape};
 use std::alloc::Global;
 
@@ -17,12 +18,12 @@ pub(crate) fn levels(alloc: Global, words: &[Piece]) -> Result<RawShape, Stop>
     match words {
         [key, rest @ ..] => {
             let key = key.bytes();
-            if key == b"jagged".as_slice() {
+            if is(key, b"jagged") {
                 jagged(rest).ok_or(Stop::NoForm)
-            } else if key == b"diagonal".as_slice() {
+            } else if is(key, b"diagonal") {
                 let offsets = offsets(alloc, rest)?;
                 Ok(RawShape::Diagonal(offsets))
-            } else if key == b"permute".as_slice() {
+            } else if is(key, b"permute") {
                 permute(alloc, rest)
             } else {
                 axes(words).ok_or(Stop::NoForm)
@@ -69,11 +70,11 @@ fn permute(alloc: Global, words: &[Piece]) -> Result<RawShape, Stop>
 fn are_permuted(outer: &[u8], first: &[u8], above: &[u8], inner: &[u8], second: &[u8]) -> bool
     ensures { result ≡ are_permuted outer.now first.now above.now inner.now second.now }
 {
-    outer == b"row".as_slice()
-        && first == b"dense".as_slice()
-        && above == b">".as_slice()
-        && inner == b"col".as_slice()
-        && second == b"packed".as_slice()
+    is(outer, b"row")
+        && is(first, b"dense")
+        && is(above, b">")
+        && is(inner, b"col")
+        && is(second, b"packed")
 }
 
 /// One level, a list of two dimensions, or two levels.
@@ -83,7 +84,7 @@ fn axes(words: &[Piece]) -> Option<RawShape>
 {
     match words {
         [first, level] => {
-            if first.bytes() == b"row".as_slice() {
+            if is(first.bytes(), b"row") {
                 one_level(level.bytes())
             } else {
                 None
@@ -108,11 +109,11 @@ fn axes(words: &[Piece]) -> Option<RawShape>
 fn one_level(level: &[u8]) -> Option<RawShape>
     ensures { result ≡ one_of level.now }
 {
-    if level == b"dense".as_slice() {
+    if is(level, b"dense") {
         Some(RawShape::DenseOne)
-    } else if level == b"packed".as_slice() {
+    } else if is(level, b"packed") {
         Some(RawShape::PackedOne)
-    } else if level == b"list".as_slice() {
+    } else if is(level, b"list") {
         Some(RawShape::ListOne)
     } else {
         None
@@ -123,7 +124,7 @@ fn one_level(level: &[u8]) -> Option<RawShape>
 fn list(first: &[u8], second: &[u8], level: &[u8]) -> Option<RawShape>
     ensures { result ≡ list_of first.now second.now level.now }
 {
-    if first == b"row".as_slice() && second == b"col".as_slice() && level == b"list".as_slice() {
+    if is(first, b"row") && is(second, b"col") && is(level, b"list") {
         Some(RawShape::ListTwo)
     } else {
         None
@@ -140,7 +141,7 @@ fn inner_level(
 ) -> Option<RawShape>
     ensures { result ≡ inner_of first.now above.now inner.now second.now outer }
 {
-    if above == b">".as_slice() && is_inner(outer, inner) {
+    if is(above, b">") && is_inner(outer, inner) {
         two_levels(outer, first, second)
     } else {
         None
@@ -152,8 +153,8 @@ fn is_inner(outer: Axis, word: &[u8]) -> bool
     ensures { result ≡ is_inner outer word.now }
 {
     match outer {
-        Axis::Row => word == b"col".as_slice(),
-        Axis::Col => word == b"row".as_slice(),
+        Axis::Row => is(word, b"col"),
+        Axis::Col => is(word, b"row"),
         Axis::Both => false,
     }
 }
@@ -161,31 +162,31 @@ fn is_inner(outer: Axis, word: &[u8]) -> bool
 fn two_levels(outer: Axis, first: &[u8], second: &[u8]) -> Option<RawShape>
     ensures { result ≡ two_of outer first.now second.now }
 {
-    if first == b"dense".as_slice() {
-        behind_dense(outer, second)
-    } else if first == b"packed".as_slice() {
-        behind_packed(outer, second)
+    if is(first, b"dense") {
+        under_dense(outer, second)
+    } else if is(first, b"packed") {
+        under_packed(outer, second)
     } else {
         None
     }
 }
 
-fn behind_dense(outer: Axis, second: &[u8]) -> Option<RawShape>
-    ensures { result ≡ behind_dense outer second.now }
+fn under_dense(outer: Axis, second: &[u8]) -> Option<RawShape>
+    ensures { result ≡ under_dense outer second.now }
 {
-    if second == b"dense".as_slice() {
+    if is(second, b"dense") {
         Some(RawShape::DenseDense(outer))
-    } else if second == b"packed".as_slice() {
+    } else if is(second, b"packed") {
         Some(RawShape::DensePacked(outer))
     } else {
         None
     }
 }
 
-fn behind_packed(outer: Axis, second: &[u8]) -> Option<RawShape>
-    ensures { result ≡ behind_packed outer second.now }
+fn under_packed(outer: Axis, second: &[u8]) -> Option<RawShape>
+    ensures { result ≡ under_packed outer second.now }
 {
-    if second == b"packed".as_slice() {
+    if is(second, b"packed") {
         Some(RawShape::PackedPacked(outer))
     } else {
         None

@@ -11,6 +11,7 @@ use crate::names::{is_digit, is_name, is_name_byte, is_name_start};
 use crate::numbers::number;
 use crate::stop::Stop;
 use crate::tokens::{Mark, Name, Token};
+use crate::words::is;
 
 /// Puts the tokens of a nest line into a list, in the place of what it held.
 pub(crate) fn lex(text: &[u8], tokens: &mut Vec<Token>) -> Result<(), Stop>
@@ -52,7 +53,7 @@ fn token(text: &[u8]) -> Option<(Token, &[u8])>
     }
 }
 
-/// A run of digits, taken whole.
+/// The number that the digits at the front write, taken whole.
 fn number_token(text: &[u8]) -> Option<(Token, &[u8])>
     ensures { option_map seen result ≡ number_at text.now }
 {
@@ -69,7 +70,7 @@ fn digits_end(text: &[u8]) -> usize
         .unwrap_or(text.len())
 }
 
-/// A run of letters, digits and `_`, taken whole.
+/// The word that the letters, digits and `_` at the front make, taken whole.
 fn word(text: &[u8]) -> Option<(Token, &[u8])>
     ensures { option_map seen result ≡ word_at text.now }
 {
@@ -89,9 +90,9 @@ fn word_end(text: &[u8]) -> usize
 fn word_token(word: &[u8]) -> Option<Token>
     ensures { result ≡ word_token word.now }
 {
-    if word == b"doany".as_slice() {
+    if is(word, b"doany") {
         Some(Token::Mark(Mark::Doany))
-    } else if word == b"where".as_slice() {
+    } else if is(word, b"where") {
         Some(Token::Mark(Mark::Where))
     } else if is_name(word) {
         Some(Token::Name(Name::from_bytes(word)))

@@ -6,6 +6,7 @@
 mod expressions;
 mod forms;
 mod job;
+mod laws;
 mod levels;
 mod lexer;
 mod line_forms;
@@ -19,9 +20,8 @@ mod offsets;
 mod pieces;
 mod stop;
 mod sums;
-#[cfg(test)]
-mod tests;
 mod tokens;
 mod words;
 
-pub use job::{JobError, a_text_has_one_form, bytes_have_one_meaning, read_job};
+pub use job::{JobError, read_job};
+pub use laws::{a_text_has_one_form, bytes_have_one_meaning, jobs_are_shallow};

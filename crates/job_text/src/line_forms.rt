@@ -39,7 +39,7 @@ pub(crate) fn line_form(alloc: Global, tokens: &mut Vec<Token>, text: &[u8]) -> 
 
 fn nest_line(alloc: Global, tokens: &mut Vec<Token>, text: &[u8]) -> Result<RawNest, Stop>
     ensures found { IfOk result (λ nest. (tokens : List Token) × Lexes text.now tokens × IsNest nest tokens) }
-    ensures none { IsErrOf result Stop.NoForm → (nest : RawNest) (tokens : List Token) → Lexes text.now tokens → ¬ (IsNest nest tokens) }
+    ensures none { IsErrOf result Stop.NoForm → (nest : RawNest) (ts : List Token) → Lexes text.now ts → ¬ (IsNest nest ts) }
 {
     lex(text, tokens)?;
     nest(alloc, tokens.as_slice())

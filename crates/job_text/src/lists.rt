@@ -2,7 +2,7 @@ ghost use Rattle.std.specs.Prelude.{◌≡◌, ◌∷◌, [], ◌++◌, IfOk};
 
 use bern_base::{Items, NoMemory};
 
-/// A list with its last item behind the others. Where it is the only one, there is room for no other.
+/// A list with its last item after the others. Where it is the only one, there is room for no other.
 pub(crate) fn with_last<T: Drop>(list: Items<T>, last: T) -> Result<Items<T>, NoMemory>
     ensures { IfOk result (λ whole. whole ≡ list ++ last ∷ []) }
 {
@@ -12,7 +12,7 @@ pub(crate) fn with_last<T: Drop>(list: Items<T>, last: T) -> Result<Items<T>, No
     Ok(Items::from_vec(whole))
 }
 
-/// A list with one more item behind the others, of a list that goes on: the first two come into the first room.
+/// A list with one more item after the others, of a list that goes on: its first room is for two.
 pub(crate) fn with_next<T: Drop>(list: Items<T>, next: T) -> Result<Items<T>, NoMemory>
     ensures { IfOk result (λ longer. longer ≡ list ++ next ∷ []) }
 {

@@ -2,6 +2,8 @@ ghost use Rattle.std.specs.Prelude.{◌≡◌, ◌≤◌, length, IsTrue};
 ghost use Rattle.std.specs.List.{list_all};
 ghost use Rattle.job_text.specs.Names.{is_name_start, is_digit, is_name_byte, is_keyword, is_among, line_words, joining_words, place_words, level_words, starts_name, is_name, is_file_byte, is_file_name};
 
+use crate::words::is;
+
 /// A letter or `_`.
 pub(crate) fn is_name_start(byte: u8) -> bool
     ensures { result ≡ is_name_start byte }
@@ -32,50 +34,50 @@ fn is_keyword(word: &[u8]) -> bool
 fn is_line_word(word: &[u8]) -> bool
     ensures { result ≡ is_among line_words word.now }
 {
-    word == b"extent".as_slice()
-        || word == b"place".as_slice()
-        || word == b"format".as_slice()
-        || word == b"array".as_slice()
-        || word == b"doany".as_slice()
-        || word == b"print".as_slice()
-        || word == b"repeat".as_slice()
-        || word == b"end".as_slice()
-        || word == b"move".as_slice()
+    is(word, b"extent")
+        || is(word, b"place")
+        || is(word, b"format")
+        || is(word, b"array")
+        || is(word, b"doany")
+        || is(word, b"print")
+        || is(word, b"repeat")
+        || is(word, b"end")
+        || is(word, b"move")
 }
 
 /// A word that joins the parts of a line.
 fn is_joining_word(word: &[u8]) -> bool
     ensures { result ≡ is_among joining_words word.now }
 {
-    word == b"where".as_slice()
-        || word == b"from".as_slice()
-        || word == b"zero".as_slice()
-        || word == b"by".as_slice()
-        || word == b"on".as_slice()
-        || word == b"to".as_slice()
+    is(word, b"where")
+        || is(word, b"from")
+        || is(word, b"zero")
+        || is(word, b"by")
+        || is(word, b"on")
+        || is(word, b"to")
 }
 
 /// A word of places.
 fn is_place_word(word: &[u8]) -> bool
     ensures { result ≡ is_among place_words word.now }
 {
-    word == b"block".as_slice() || word == b"cyclic".as_slice() || word == b"listed".as_slice()
+    is(word, b"block") || is(word, b"cyclic") || is(word, b"listed")
 }
 
 /// A word of levels.
 fn is_level_word(word: &[u8]) -> bool
     ensures { result ≡ is_among level_words word.now }
 {
-    word == b"row".as_slice()
-        || word == b"col".as_slice()
-        || word == b"dense".as_slice()
-        || word == b"packed".as_slice()
-        || word == b"list".as_slice()
-        || word == b"jagged".as_slice()
-        || word == b"diagonal".as_slice()
-        || word == b"permute".as_slice()
-        || word == b"blocks".as_slice()
-        || word == b"hashed".as_slice()
+    is(word, b"row")
+        || is(word, b"col")
+        || is(word, b"dense")
+        || is(word, b"packed")
+        || is(word, b"list")
+        || is(word, b"jagged")
+        || is(word, b"diagonal")
+        || is(word, b"permute")
+        || is(word, b"blocks")
+        || is(word, b"hashed")
 }
 
 fn are_name_bytes(word: &[u8]) -> bool

@@ -1,17 +1,14 @@
 ghost use Rattle.std.specs.Prelude.{◌≡◌, ◌<◌, ◌≤◌, ℕ, option_map, length, IfOk, IfSome};
 ghost use Rattle.job_text.specs.NestReading.{span_at, to_at, vars_at, vars_from, name_at, rel_at, guard_at, guards_at, guards_from, comma_at, whole_at, assign_at, statement_at, nest_at};
-ghost use Rattle.job_text.specs.Reading.{Gives, seen, behind, named};
+ghost use Rattle.job_text.specs.Reading.{Gives, seen, following, named};
 
 use crate::expressions::expression;
 use crate::lists::{with_last, with_next};
 use crate::stop::Stop;
 use crate::sums::{reference, sum};
 use crate::tokens::{Mark, Name, Token};
-use bern_base::{Items, RawExpr, RawGuard, RawNest, RawVar, Rel, Text};
+use bern_base::{EXPRESSION_LEVELS, Items, RawExpr, RawGuard, RawNest, RawVar, Rel, Text};
 use std::alloc::Global;
-
-/// How deep expressions may stand in one another: 16 pairs of parentheses.
-const LEVELS: u32 = 17;
 
 /// A whole nest line.
 #[tactic(auto, unfolding(crate::specs::NestReading::nest_at))]
@@ -72,7 +69,7 @@ fn assignment<'a>(tokens: &'a [Token]) -> Result<(bool, &'a [Token]), Stop>
 fn whole_expression(alloc: Global, tokens: &[Token]) -> Result<RawExpr, Stop>
     ensures { (n : ℕ) → length tokens.now < n → Gives (λ body. body) result (whole_at n tokens.now) }
 {
-    let (body, rest) = expression(alloc, LEVELS, tokens)?;
+    let (body, rest) = expression(alloc, EXPRESSION_LEVELS, tokens)?;
     match rest {
         [] => Ok(body),
         _ => Err(Stop::NoForm),
@@ -143,7 +140,7 @@ fn span<'a>(alloc: Global, name: &Name, tokens: &'a [Token]) -> Result<(RawVar, 
     }
 }
 
-/// The guards behind `where`, or none.
+/// The guards after `where`, or none.
 fn guards<'a>(alloc: Global, tokens: &'a [Token]) -> Result<(Items<RawGuard>, &'a [Token]), Stop>
     ensures value { (n : ℕ) → length tokens.now < n → Gives seen result (guards_at n tokens.now) }
     ensures shorter { IfOk result (λ p. length p.1.now ≤ length tokens.now) }
@@ -178,7 +175,7 @@ fn guards_from<'a>(
 
 /// What follows the comma that joins the next guard.
 fn next_comma(tokens: &[Token]) -> Option<&[Token]>
-    ensures value { option_map behind result ≡ comma_at tokens.now }
+    ensures value { option_map following result ≡ comma_at tokens.now }
     ensures shorter { IfSome result (λ next. length next.now < length tokens.now) }
 {
     match tokens {

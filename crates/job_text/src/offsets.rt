@@ -65,7 +65,7 @@ fn is_above(last: Option<i128>, next: i128) -> bool
     }
 }
 
-/// A number, or one behind a minus.
+/// A number, or one after a minus.
 fn offset(word: &[u8]) -> Option<i128>
     ensures { result ≡ offset_of word.now }
 {

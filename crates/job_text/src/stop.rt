@@ -5,7 +5,7 @@ use bern_base::NoMemory;
 use std::alloc::{AllocError, AllocFailed};
 
 /// Why a reader gave no form.
-#[derive(Clone, Copy, Debug, PartialEq, Eq)]
+#[derive(Clone, Copy)]
 pub(crate) enum Stop {
     /// The words or tokens spell nothing of the kind.
     NoForm,

@@ -5,13 +5,8 @@ ghost use Rattle.job_text.specs.Reading.{Gives, seen};
 use crate::lists::{with_last, with_next};
 use crate::stop::Stop;
 use crate::tokens::{Mark, Token};
-use bern_base::{Items, RawItem, RawRef, RawSum, Text};
+use bern_base::{Items, MOST_ITEMS, MOST_SUM_NUMBER, RawItem, RawRef, RawSum, Text};
 use std::alloc::Global;
-
-/// How many items a sum may have.
-const ITEMS: u32 = 8;
-/// One above the largest number of a sum.
-const LIMIT: u64 = 4_294_967_296;
 
 /// An array's name and its subscripts in brackets.
 #[tactic(auto, unfolding(crate::specs::NestReading::ref_at))]
@@ -57,7 +52,7 @@ fn subscripts<'a>(alloc: Global, tokens: &'a [Token]) -> Result<(Items<RawSum>, 
     }
 }
 
-/// A sum of at most 8 items.
+/// A sum of at most [`MOST_ITEMS`] items.
 #[tactic(auto, unfolding(crate::specs::NestReading::sum_at))]
 pub(crate) fn sum<'a>(alloc: Global, tokens: &'a [Token]) -> Result<(RawSum, &'a [Token]), Stop>
     ensures value { Gives seen result (sum_at tokens.now) }
@@ -80,7 +75,7 @@ fn items<'a>(
     let mut items = Items::new(alloc);
     let mut minus = minus;
     let mut rest = tokens;
-    for _ in 0..ITEMS {
+    for _ in 0..MOST_ITEMS {
         let (item, after) = item(alloc, minus, rest)?;
         match next_sign(after) {
             Some((sign, next)) => {
@@ -126,7 +121,7 @@ fn item<'a>(alloc: Global, minus: bool, tokens: &'a [Token]) -> Result<(RawItem,
     }
 }
 
-/// An item whose number is below 2^32, and what follows it.
+/// An item whose number is at most [`MOST_SUM_NUMBER`], and what follows it.
 fn limited<'a>(
     minus: bool,
     number: u64,
@@ -136,7 +131,7 @@ fn limited<'a>(
     ensures value { Gives seen result (limited_item minus number name rest.now) }
     ensures rest { IfOk result (λ p. length p.1.now ≤ length rest.now) }
 {
-    if number < LIMIT {
+    if number <= u64::from(MOST_SUM_NUMBER) {
         Ok((
             RawItem {
                 minus,

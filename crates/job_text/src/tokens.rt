@@ -4,7 +4,7 @@ use arrayvec::ArrayVec;
 use std::marker::Model;
 
 /// A sign of a nest line.
-#[derive(Clone, Copy, Debug, PartialEq, Eq)]
+#[derive(Clone, Copy)]
 pub(crate) enum Mark {
     /// `..`
     Dots,
@@ -49,7 +49,7 @@ pub(crate) enum Mark {
 }
 
 /// A word of a nest line.
-#[derive(Debug, Drop)]
+#[derive(Drop)]
 pub(crate) enum Token {
     Name(Name),
     Num(u64),
@@ -57,7 +57,7 @@ pub(crate) enum Token {
 }
 
 /// A name of at most 32 bytes, which stand in the token itself; contracts see the bytes.
-#[derive(Debug, Drop)]
+#[derive(Drop)]
 pub(crate) struct Name {
     bytes: ArrayVec<u8, 32>,
 }

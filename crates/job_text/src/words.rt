@@ -1,4 +1,5 @@
 ghost use Rattle.std.specs.Prelude.{◌≡◌, IfOk};
+ghost use Rattle.std.specs.Str.{bytes_eq};
 ghost use Rattle.job_text.specs.Lines.{words};
 
 use crate::lines::{is_blank, is_some_text};
@@ -16,4 +17,11 @@ pub(crate) fn words<'a>(alloc: Global, text: &'a [u8]) -> Result<Vec<Piece<'a>>,
         .map(|word| Piece::new(word))
         .collect(alloc)?;
     Ok(words)
+}
+
+/// Whether a word is this one.
+pub(crate) fn is(word: &[u8], other: &[u8]) -> bool
+    ensures { result ≡ bytes_eq word.now other.now }
+{
+    word == other
 }

@@ -1,6 +1,8 @@
 -- Worked examples: small files with their matrix or their first refusal.
 use Rattle.std.specs.Prelude.{◌≡◌, ◌-◌, ◌^◌, [], ◌∷◌, Ok, Err, codes, refl}
+use Rattle.std.specs.Fmt.{digits}
 use Rattle.bern_base.specs.declared.refusal.Rule.TheVariants.{M1, M2, M3, M4, M5, M6, M7, M8, M9, M10, M11}
+use Rattle.mm_profile.specs.ArrayText.{array_text}
 use Rattle.mm_profile.specs.Entries.{entry_at}
 use Rattle.mm_profile.specs.Profile.{mm}
 
@@ -32,6 +34,10 @@ no_size_line = refl
 pub too_many_columns : mm (codes "%%MatrixMarket matrix coordinate integer general\n1 4194305 0\n") ≡ Err (2, M4)
 too_many_columns = refl
 
+-- a side at its limit
+pub most_columns : mm (codes "%%MatrixMarket matrix coordinate integer general\n0 4194304 0\n") ≡ Ok (record { rows = 0; cols = 4194304; entries = [] })
+most_columns = refl
+
 pub not_square : mm (codes "%%MatrixMarket matrix coordinate integer symmetric\n1 2 0\n") ≡ Err (2, M5)
 not_square = refl
 
@@ -53,3 +59,9 @@ too_few = refl
 -- whatever the line holds
 pub too_many : mm (codes "%%MatrixMarket matrix coordinate integer general\n1 1 1\n1 1 1\nx\n") ≡ Err (4, M11)
 too_many = refl
+
+-- a printed array: values go column by column, and one from 2^63 on has a sign
+pub columns : array_text (codes "A") 2 3 (1 ∷ 2 ∷ 3 ∷ (2 ^ 64 - 4) ∷ (2 ^ 63) ∷ (2 ^ 63 - 1) ∷ [])
+    ≡ codes "%%MatrixMarket matrix array integer general\n% A\n2 3\n1\n-4\n2\n-9223372036854775808\n3\n9223372036854775807\n"
+unfolding digits
+columns = refl

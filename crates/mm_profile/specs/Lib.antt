@@ -6,3 +6,4 @@ pub mod Places
 pub mod Entries
 pub mod Sums
 pub mod Profile
+pub mod ArrayText

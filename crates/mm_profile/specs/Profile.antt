@@ -2,6 +2,7 @@
 use Rattle.std.specs.Prelude.{ℕ, ◌+◌, Bool, true, ◌==◌, nat_lt, if◌then◌else◌, List, [], ◌∷◌, ◌++◌, length, slice_index, Result, Ok, Err}
 use Rattle.bern_base.specs.declared.refusal.Rule.{Rule}
 use Rattle.bern_base.specs.declared.refusal.Rule.TheVariants.{M1, M3, M10, M11, M12}
+use Rattle.bern_base.specs.declared.limits.TheConstants.{MOST_FILE_BYTES}
 use Rattle.bern_base.specs.declared.matrix.Entry.{Entry}
 use Rattle.bern_base.specs.declared.matrix.Matrix.{Matrix}
 use Rattle.mm_profile.specs.declared.kinds.Kind.{Kind}
@@ -64,9 +65,9 @@ abbrev pub file : List (List ℕ) → Result Matrix Fault
 file [] = Err (1, M1)
 file (line ∷ lines) = and_then (at_line 1 (banner_of (words line))) (λ kind. body kind (kept 2 lines) (2 + length lines))
 
--- rule M12: a file has at most 67,108,864 bytes
+-- rule M12: a file has at most so many bytes
 abbrev pub is_too_long : List ℕ → Bool
-is_too_long bytes = nat_lt 67108864 (length bytes)
+is_too_long bytes = nat_lt MOST_FILE_BYTES (length bytes)
 
 abbrev pub mm : List ℕ → Result Matrix Fault
 mm bytes = if is_too_long bytes then Err (0, M12) else file (lines bytes)

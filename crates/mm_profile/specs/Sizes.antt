@@ -1,6 +1,7 @@
 -- The size line: how many rows, columns and entries a file has.
 use Rattle.std.specs.Prelude.{ℕ, ◌*◌, Bool, true, false, ◌&&◌, ◌||◌, ◌==◌, nat_le, if◌then◌else◌, List, length, Result, Ok, Err}
 use Rattle.std.specs.List.{list_all}
+use Rattle.bern_base.specs.declared.limits.TheConstants.{MOST_SIDE, MOST_ENTRIES}
 use Rattle.bern_base.specs.declared.refusal.Rule.{Rule}
 use Rattle.bern_base.specs.declared.refusal.Rule.TheVariants.{M3, M4, M5}
 use Rattle.mm_profile.specs.declared.kinds.Format.{Format}
@@ -35,7 +36,7 @@ is_size_line format words = are_numbers (numbers_due format) words
 
 -- rule M4: the sizes are within the limits
 abbrev pub is_within_limits : ℕ → ℕ → ℕ → Bool
-is_within_limits rows cols stated = nat_le rows 4194304 && nat_le cols 4194304 && nat_le stated 16777216
+is_within_limits rows cols stated = nat_le rows MOST_SIDE && nat_le cols MOST_SIDE && nat_le stated MOST_ENTRIES
 
 abbrev pub is_general : Symmetry → Bool
 is_general General = true

@@ -1,68 +1,19 @@
 -- What some bytes begin with: numbers and blanks, and the line that they make.
-use Rattle.std.proofs.Common.{◌≡◌, ℕ, ◌+◌, ◌-◌, ◌*◌, ◌<◌, Bool, true, false, ◌==◌, ◌||◌, not, nat_le, List, [], ◌∷◌, ◌++◌, length, drop, filter, get_or, refl, sym, ap, subst, ◌∙◌, inl, inr, arith, append_assoc}
-use Rattle.std.specs.List.{list_all, list_any}
-use Rattle.std.proofs.lemmas.Bool.{cases_Bool, false≢true, and_parts, and_from, or_parts, or_from, or_cases, leb-true, eqb-true, ne_eqb}
+use Rattle.std.proofs.Common.{◌≡◌, ℕ, ◌+◌, ◌-◌, ◌*◌, Bool, true, false, ◌==◌, ◌||◌, List, [], ◌∷◌, ◌++◌, length, drop, get_or, refl, sym, ap, subst, ◌∙◌, inl, inr, arith, append_assoc}
+use Rattle.std.specs.List.{list_any}
+use Rattle.std.proofs.lemmas.Bool.{cases_Bool, false≢true, and_from, or_from, or_cases, eqb-true}
 use Rattle.std.proofs.lemmas.List.{length_push, get_or_push, take-append-le, take_all}
 use Rattle.std.proofs.lemmas.List.Folds.{list_any-append, list_all-append}
 use Rattle.std.proofs.lemmas.List.Sums.{fold_push}
-use Rattle.mm_profile.specs.Lines.{is_blank, is_line_feed, is_empty, words, without_return}
-use Rattle.mm_profile.specs.Numbers.{is_digit, is_natural, natural, is_minus, is_plus, unsigned, is_integer}
-use Rattle.mm_profile.specs.Profile.{is_skipped}
+use Rattle.mm_profile.specs.Lines.{is_blank, is_line_feed, words, without_return}
+use Rattle.mm_profile.specs.Numbers.{is_digit, is_natural, natural, is_minus, is_plus, unsigned}
 use Rattle.mm_text.specs.declared.numerals.Natural.{Natural}
 use Rattle.mm_text.specs.declared.numerals.Number.{Number}
 use Rattle.mm_text.specs.Naturals.{StandsFor, IsNumber}
 use Rattle.mm_text.specs.Fronts.{BeginsWithNatural, BeginsWithInteger, BeginsWithBlank, BeginsWithEnd, BeginsWithLine}
 use Rattle.mm_text.specs.PlainLines.{SaysTriple, SaysPair, SaysValue}
-use Rattle.mm_text.proofs.LinesLemmas.{cut_found, natural-word, integer-word}
-use Rattle.mm_text.proofs.PrintedLines.{is_return, without_return_whole}
-
--- a test that no byte of a number passes
-record IsForeign (p : ℕ → Bool) : Type 0 where
-  digit : (b : ℕ) → is_digit b ≡ true → p b ≡ false
-  minus : p 45 ≡ false
-  plus : p 43 ≡ false
-
-foreign-digits : (p : ℕ → Bool) → IsForeign p → (w : List ℕ) → list_all is_digit w ≡ true → list_any p w ≡ false
-foreign-digits p f [] digits = refl
-foreign-digits p f (b ∷ w) digits =
-    let parts = and_parts (is_digit b) (list_all is_digit w) digits in
-    or_from _ _ (f.digit b parts.0) (foreign-digits p f w parts.1)
-
-foreign-natural : (p : ℕ → Bool) → IsForeign p → (w : List ℕ) → is_natural w ≡ true → list_any p w ≡ false
-foreign-natural p f [] spelled = refl
-foreign-natural p f (b ∷ w) spelled = foreign-digits p f (b ∷ w) spelled
-
-foreign-integer : (p : ℕ → Bool) → IsForeign p → (w : List ℕ) → is_integer w ≡ true → list_any p w ≡ false
-foreign-integer p f [] spelled = refl
-foreign-integer p f (b ∷ w) spelled =
-    elim (cases_Bool (is_minus (b ∷ w) || is_plus (b ∷ w))) [
-      | inl signed ↦ or_from _ _ (sign signed) (foreign-natural p f w (rw signed at spelled))
-      | inr bare ↦ foreign-natural p f (b ∷ w) (rw bare at spelled)
-    ]
-  where
-    sign : (b == 45 || b == 43) ≡ true → p b ≡ false
-    sign signed = elim (or_cases (b == 45) (b == 43) signed) [ inl is ↦ rw (eqb-true b 45 is) f.minus | inr is ↦ rw (eqb-true b 43 is) f.plus ]
-
--- each byte below the signs
-below_signs : (x : ℕ) → x < 43 → IsForeign (λ b. b == x)
-below_signs x small = record {
-  digit = λ b digit. ne_eqb b x (λ e. omega (arith, e, small, leb-true 48 b (and_parts (nat_le 48 b) (nat_le b 57) digit).0));
-  minus = ne_eqb 45 x (λ e. omega (arith, e, small));
-  plus = ne_eqb 43 x (λ e. omega (arith, e, small));
-}
-
-blanks_foreign : IsForeign is_blank
-blanks_foreign = record {
-  digit = λ b digit. or_from _ _ ((below_signs 32 (omega arith)).digit b digit) ((below_signs 9 (omega arith)).digit b digit);
-  minus = refl;
-  plus = refl;
-}
-
-feeds_foreign : IsForeign is_line_feed
-feeds_foreign = below_signs 10 (omega arith)
-
-returns_foreign : IsForeign is_return
-returns_foreign = below_signs 13 (omega arith)
+use Rattle.mm_text.proofs.LinesLemmas.{natural-word, integer-word}
+use Rattle.mm_text.proofs.NumberLines.{IsForeign, foreign-natural, foreign-integer, feeds_foreign, returns_foreign, is_return, without_return_whole, words_more, natural_kept, integer_kept}
 
 -- a blank is no end of a line
 blank_feed : (b : ℕ) → is_blank b ≡ true → is_line_feed b ≡ false
@@ -74,23 +25,6 @@ blank_return b blank = elim (or_cases (b == 32) (b == 9) blank) [ inl is ↦ rw 
 -- a word and a blank before other bytes of which none passes
 none_more : (p : ℕ → Bool) (w : List ℕ) (b : ℕ) (rest : List ℕ) → list_any p w ≡ false → p b ≡ false → list_any p rest ≡ false → list_any p (w ++ b ∷ rest) ≡ false
 none_more p w b rest none_w none_b none_rest = list_any-append p w (b ∷ rest) ∙ or_from _ _ none_w (or_from _ _ none_b none_rest)
-
--- a word that a blank ends
-words_more : (w : List ℕ) (b : ℕ) (rest : List ℕ) → is_natural w ≡ true → is_blank b ≡ true → words (w ++ b ∷ rest) ≡ w ∷ words rest
-words_more [] b rest spelled blank = absurd (false≢true spelled)
-words_more (x ∷ w) b rest spelled blank =
-    ap (filter (λ word. not (is_empty word))) (cut_found is_blank (x ∷ w) b rest (foreign-natural is_blank blanks_foreign (x ∷ w) spelled) blank)
-
--- a line whose first word is a number is not skipped
-not_skipped : (w : List ℕ) (ws : List (List ℕ)) → list_any (λ b. b == 37) w ≡ false → is_skipped (w ∷ ws) ≡ false
-not_skipped [] ws none = refl
-not_skipped (b ∷ w) ws none = (or_parts (b == 37) (list_any (λ b. b == 37) w) none).0
-
-natural_kept : (w : List ℕ) (ws : List (List ℕ)) → is_natural w ≡ true → is_skipped (w ∷ ws) ≡ false
-natural_kept w ws spelled = not_skipped w ws (foreign-natural (λ b. b == 37) (below_signs 37 (omega arith)) w spelled)
-
-integer_kept : (w : List ℕ) (ws : List (List ℕ)) → is_integer w ≡ true → is_skipped (w ∷ ws) ≡ false
-integer_kept w ws spelled = not_skipped w ws (foreign-integer (λ b. b == 37) (below_signs 37 (omega arith)) w spelled)
 
 -- one carriage return at the end
 without_return_end : (line : List ℕ) → without_return (line ++ 13 ∷ []) ≡ line

@@ -5,9 +5,10 @@ pub mod NumberWordLemmas
 pub mod PlacesLemmas
 pub mod EntriesLemmas
 pub mod SumsLemmas
-pub mod FeedingLemmas
+pub mod NumberLines
+pub mod PieceLemmas
 pub mod FrontsLemmas
-pub mod TakingLemmas
+pub mod TableLemmas
 pub mod PrintedNumbers
 pub mod PrintedLines
 pub mod Grids

@@ -7,8 +7,9 @@ use Rattle.std.specs.List.{list_any, flat_map, range_with_len}
 use Rattle.std.proofs.lemmas.Bool.{le-leb, le-ltb}
 use Rattle.std.proofs.lemmas.List.Folds.{flat_map-map}
 use Rattle.bern_base.specs.Ring.{signed_of}
+use Rattle.bern_base.specs.declared.limits.TheConstants.{MOST_FILE_BYTES, MOST_SIDE, MOST_ENTRIES}
 use Rattle.bern_base.specs.declared.matrix.Entry.{Entry}
-use Rattle.dense_model.specs.ArrayText.{value_line, column_text, array_text}
+use Rattle.mm_profile.specs.ArrayText.{value_line, column_text, array_text}
 use Rattle.mm_profile.specs.declared.kinds.Format.TheVariants.{Array}
 use Rattle.mm_profile.specs.declared.kinds.Field.TheVariants.{Integer}
 use Rattle.mm_profile.specs.declared.kinds.Symmetry.TheVariants.{General}
@@ -21,8 +22,8 @@ use Rattle.mm_profile.specs.Entries.{entry_at, entry_of}
 use Rattle.mm_profile.specs.Profile.{and_then, kept, entries, body, file}
 use Rattle.mm_text.specs.PrintedArrays.{ReadsPrintedArrays}
 use Rattle.mm_text.proofs.EntriesLemmas.{entries_ok}
-use Rattle.mm_text.proofs.FeedingLemmas.{lines_found}
-use Rattle.mm_text.proofs.PrintedNumbers.{Spells, spells-decimal, spells-is_natural, digits-plain, Printed, printed-signed}
+use Rattle.mm_text.proofs.PieceLemmas.{lines_found}
+use Rattle.mm_text.proofs.PrintedNumbers.{Spells, spells-decimal, spells-is_natural, Printed, printed-signed}
 use Rattle.mm_text.proofs.PrintedLines.{kept_number, skipped_comment, kept_sizes, sizes_feed}
 use Rattle.mm_text.proofs.Grids.{map-flat_map, flat_map-flat_map, map-map, sums-columns}
 
@@ -33,7 +34,7 @@ abbrev array_head_of : ℕ → ℕ → Head
 array_head_of rows cols = record { kind = array_kind; rows = rows; cols = cols; stated = rows * cols }
 
 -- the words of a size line spell the sizes
-head_read : (rows cols : ℕ) (v w : List ℕ) → Spells rows v → Spells cols w → rows ≤ 4194304 → cols ≤ 4194304 → rows * cols ≤ 16777216 → head_of array_kind (v ∷ w ∷ []) ≡ Ok (array_head_of rows cols)
+head_read : (rows cols : ℕ) (v w : List ℕ) → Spells rows v → Spells cols w → rows ≤ MOST_SIDE → cols ≤ MOST_SIDE → rows * cols ≤ MOST_ENTRIES → head_of array_kind (v ∷ w ∷ []) ≡ Ok (array_head_of rows cols)
 head_read rows cols v w spells_rows spells_cols few_rows few_cols few =
     rw (spells-is_natural rows v spells_rows, spells-is_natural cols w spells_cols)
     (rw (spells_rows.is, spells_cols.is) (rw (le-leb _ _ few_rows, le-leb _ _ few_cols, le-leb _ _ few) refl))
@@ -54,7 +55,7 @@ entries_read rows cols n past value fit (at ∷ ats) =
     let entry : List Entry = entry_at at.0 at.1 (value at) ∷ [] in
     let printed : Printed (value at) (signed_decimal (signed_of (value at))) = printed-signed (value at) (fit at) in
     ap (λ text. entries head (At at.0 at.1 ∷ due) (kept n (lines text)) past) (append_assoc w (10 ∷ []) rest)
-    ∙ ap (λ kept_lines. entries head (At at.0 at.1 ∷ due) kept_lines past) (kept_number n w rest printed.some printed.plain)
+    ∙ ap (λ kept_lines. entries head (At at.0 at.1 ∷ due) kept_lines past) (kept_number n w rest printed.spelled)
     ∙ entries_ok head (At at.0 at.1) due (w ∷ []) n (kept (n + 1) (lines rest)) past entry (entry_read head at.0 at.1 (value at) w refl printed)
     ∙ ap (λ read. and_then read (λ more. Ok (entry ++ more))) (entries_read rows cols (n + 1) past value fit ats)
 
@@ -122,16 +123,16 @@ reads-printed-arrays name values rows cols open_name few_rows few_cols few fit s
     let text : List ℕ = flat_map (column_text rows cols values) (range_with_len 0 cols) in
     let r = spells-decimal rows (omega (arith, few_rows)) in
     let c = spells-decimal cols (omega (arith, few_cols)) in
-    let plain_r = digits-plain (decimal rows) r.digits in
-    let plain_c = digits-plain (decimal cols) c.digits in
+    let spelled_r = spells-is_natural rows (decimal rows) r in
+    let spelled_c = spells-is_natural cols (decimal cols) c in
     let size_line : List ℕ = decimal rows ++ 32 ∷ decimal cols in
     let ls : List (List ℕ) = without_return (37 ∷ 32 ∷ name) ∷ without_return size_line ∷ lines text in
     let past : ℕ = 2 + length ls in
-    let sizes = skipped_comment 2 name (without_return size_line ∷ lines text) ∙ kept_sizes 3 (decimal rows) (decimal cols) (lines text) r.some c.some plain_r plain_c in
+    let sizes = skipped_comment 2 name (without_return size_line ∷ lines text) ∙ kept_sizes 3 (decimal rows) (decimal cols) (lines text) spelled_r spelled_c in
     let head = head_read rows cols (decimal rows) (decimal cols) r c few_rows few_cols few in
-    rw (le-ltb 67108864 (length (array_text name rows cols values)) short)
+    rw (le-ltb MOST_FILE_BYTES (length (array_text name rows cols values)) short)
     (ap (λ t. file (lines t)) (regrouped name values rows cols)
-    ∙ ap file (three_lines name (decimal rows) (decimal cols) text open_name (sizes_feed (decimal rows) (decimal cols) plain_r plain_c))
+    ∙ ap file (three_lines name (decimal rows) (decimal cols) text open_name (sizes_feed (decimal rows) (decimal cols) spelled_r spelled_c))
     ∙ banner_read ls
     ∙ ap (λ numbered. body array_kind numbered past) sizes
     ∙ rw head (rw (array_read rows cols 4 past values fit) (rw (sums-columns rows cols values fit) refl)))

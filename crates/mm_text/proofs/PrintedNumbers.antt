@@ -1,5 +1,5 @@
 -- Printed numbers are words that spell them.
-use Rattle.std.proofs.Common.{◌≡◌, ℕ, suc, ◌+◌, ◌-◌, ◌*◌, ◌/◌, ◌%◌, ◌^◌, ◌<◌, ◌≤◌, Bool, true, false, ◌||◌, ◌==◌, nat_le, List, [], ◌∷◌, ◌++◌, length, refl, subst, ◌∙◌, inl, inr, arith}
+use Rattle.std.proofs.Common.{◌≡◌, ℕ, suc, ◌+◌, ◌-◌, ◌*◌, ◌/◌, ◌%◌, ◌^◌, ◌<◌, ◌≤◌, true, false, ◌==◌, nat_le, List, [], ◌∷◌, ◌++◌, length, refl, subst, ◌∙◌, inl, inr, arith}
 use Rattle.std.specs.Prelude.{decimal}
 use Rattle.std.specs.Fmt.{signed_decimal}
 use Rattle.std.specs.List.{list_all}
@@ -40,23 +40,11 @@ pub spells-is_natural : (n : ℕ) (w : List ℕ) → Spells n w → is_natural w
 spells-is_natural n [] s = absurd (omega (arith, s.some))
 spells-is_natural n (b ∷ w) s = s.digits
 
--- a byte of a printed number
-abbrev pub is_plain : ℕ → Bool
-is_plain b = is_digit b || b == 45
-
 -- a word that is read as this value
 pub record Printed (v : ℕ) (w : List ℕ) : Type 0 where
-  pub some : 0 < length w
-  pub plain : list_all is_plain w ≡ true
   pub spelled : is_integer w ≡ true
   pub inside : is_outside (integer w) ≡ false
   pub value : value_of (integer w) ≡ v
-
-pub digits-plain : (w : List ℕ) → list_all is_digit w ≡ true → list_all is_plain w ≡ true
-digits-plain [] digits = refl
-digits-plain (b ∷ w) digits =
-    let parts = and_parts (is_digit b) (list_all is_digit w) digits in
-    rw parts.0 (digits-plain w parts.1)
 
 digit_above : (b : ℕ) → is_digit b ≡ true → 48 ≤ b
 digit_above b digit = leb-true 48 b (and_parts (nat_le 48 b) (nat_le b 57) digit).0
@@ -68,8 +56,6 @@ printed-digits n (b ∷ w) below s =
     let minus : (b == 45) ≡ false = ne_eqb b 45 (λ e. omega (arith, e, digit)) in
     let plus : (b == 43) ≡ false = ne_eqb b 43 (λ e. omega (arith, e, digit)) in
     record {
-      some = s.some;
-      plain = digits-plain (b ∷ w) s.digits;
       spelled = rw (minus, plus) s.digits;
       inside = rw (minus, plus) (rw s.is (lt-leb (2 ^ 64) n below));
       value = rw (minus, plus) s.is;
@@ -78,8 +64,6 @@ printed-digits n (b ∷ w) below s =
 pub printed-minus : (n : ℕ) (w : List ℕ) → 0 < n → n ≤ 2 ^ 63 → Spells n w → Printed (2 ^ 64 - n) (45 ∷ w)
 printed-minus n w above below s =
     record {
-      some = omega arith;
-      plain = digits-plain w s.digits;
       spelled = spells-is_natural n w s;
       inside = rw s.is (le-ltb (2 ^ 63) n below);
       value = rw s.is (mod-eq_of_lt (omega arith));

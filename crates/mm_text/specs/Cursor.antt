@@ -23,7 +23,8 @@ is_due head (Listed row col) = nat_lt row head.rows && nat_lt col head.cols
 -- at this line the entries are what it counts for, and those from the places after it on
 abbrev pub CountsNext : Head → Due → List ℕ → Counted → Due → Type 0
 CountsNext head due line counted after = (n : ℕ) (lines : List Numbered) (past : ℕ) →
-    entries head (due_list head due) ((n, words line) ∷ lines) past ≡ and_then (entries head (due_list head after) lines past) (λ more. Ok (counted_list counted ++ more))
+    entries head (due_list head due) ((n, words line) ∷ lines) past
+    ≡ and_then (entries head (due_list head after) lines past) (λ more. Ok (counted_list counted ++ more))
 
 -- this line is refused
 abbrev pub RefusesNext : Head → Due → List ℕ → Rule → Type 0

@@ -1,7 +1,7 @@
 ghost use Rattle.std.specs.Prelude.{◌≡◌, ◌+◌, ◌*◌, ◌<◌, ◌++◌, length, OnOk, OnErr};
 ghost use Rattle.std.specs.List.{flat_map, range_with_len};
 ghost use Rattle.std.specs.Io.{StartsWith};
-ghost use Rattle.dense_model.specs.ArrayText.{value_line, column_text, sizes_line, array_head, array_text};
+ghost use Rattle.mm_profile.specs.ArrayText.{value_line, column_text, sizes_line, array_head, array_text};
 
 use bern_base::{Items, NoMemory, Text, Val};
 use itoa::Buffer;

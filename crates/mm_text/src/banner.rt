@@ -77,7 +77,7 @@ fn kind_named(object: &[u8], format: &[u8], field: &[u8], symmetry: &[u8]) -> Op
     }
 }
 
-/// What line 1 says.
+/// What line 1 says. Rule M1: it has five words, and the first is the mark. Rule M2: the others name a kind of file.
 pub(crate) fn banner_of(line: &[u8]) -> Result<Kind, Rule>
     ensures { result ≡ banner_of (words line.now) }
 {

@@ -5,7 +5,7 @@ ghost use Rattle.mm_text.specs.Cursor.{due_list, is_due};
 use mm_profile::{Format, Head, Symmetry};
 
 /// The places for which entry lines are due.
-#[derive(Clone, Copy, Debug, PartialEq, Eq)]
+#[derive(Clone, Copy)]
 pub(crate) enum Due {
     /// So many lines that name their places.
     Lines(u32),

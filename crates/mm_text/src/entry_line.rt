@@ -1,4 +1,4 @@
-ghost use Rattle.std.specs.Prelude.{◌≡◌, ℕ, ◌-◌, ◌<◌, true, false, IsTrue, IfOk, IfSome, MatchOption};
+ghost use Rattle.std.specs.Prelude.{◌≡◌, ℕ, ◌-◌, ◌<◌, true, false, IsTrue, IfOk, IfSome, MatchOption, MatchResult};
 ghost use Rattle.mm_profile.specs.Lines.{words, word_at};
 ghost use Rattle.mm_profile.specs.Numbers.{Whole, integer};
 ghost use Rattle.mm_profile.specs.Sizes.{number_at, is_square};
@@ -6,7 +6,9 @@ ghost use Rattle.mm_profile.specs.Places.{Place, Stated, At};
 ghost use Rattle.mm_profile.specs.Entries.{mirrored, is_skew, counted_of, valued, is_index, placed, is_stated_line, is_listed_line, entry_of};
 ghost use Rattle.mm_text.specs.Naturals.{StandsFor, IsNumber};
 ghost use Rattle.mm_text.specs.Counts.{counted_list, listed, are_inside};
+ghost use Rattle.mm_text.specs.Cursor.{is_due, CountsNext, RefusesNext};
 
+use crate::due::{Due, due_after};
 use crate::number_words::next_natural;
 use crate::numerals::{Natural, Number, read_integer};
 use crate::size_line::two_numbers;
@@ -15,7 +17,7 @@ use bern_base::{Entry, Rule, Val};
 use mm_profile::{Field, Head, Symmetry};
 
 /// What an entry line counts for: its element alone, or the mirrored one too.
-#[derive(Clone, Copy, Debug, PartialEq, Eq)]
+#[derive(Clone, Copy)]
 pub(crate) enum Counted {
     One(Entry),
     Two(Entry, Entry),
@@ -59,7 +61,8 @@ fn is_skew(symmetry: Symmetry) -> bool
     }
 }
 
-/// What an entry counts for, once its place and its value are known.
+/// What an entry counts for, once its place and its value are known. Rule M8: the value is within its range.
+/// Rule M9: on the diagonal of a skew-symmetric file it is 0.
 pub(crate) fn valued(head: &Head, row: u32, col: u32, number: Number) -> Result<Counted, Rule>
     requires row { row < head.now.rows }
     requires col { col < head.now.cols }
@@ -90,6 +93,7 @@ fn index_of(size: u32, index: Natural) -> Option<u32>
     }
 }
 
+/// What an entry counts for whose indices are still to be tried. Rule M7: both lie in the matrix.
 pub(crate) fn placed(
     head: &Head,
     row: Natural,
@@ -125,8 +129,8 @@ fn place_and_value(line: &[u8]) -> Option<(Natural, Natural, Number)>
     Some((row, col, value))
 }
 
-/// What a line counts for that names its place.
-pub(crate) fn stated_entry(head: &Head, line: &[u8]) -> Result<Counted, Rule>
+/// What a line counts for that names its place. Rule M6: it is a row, a column and a value, or a row and a column.
+fn stated_entry(head: &Head, line: &[u8]) -> Result<Counted, Rule>
     requires square { IsTrue (is_square head.now.kind.symmetry head.now.rows head.now.cols) }
     ensures entry { listed result ≡ entry_of head.now Stated (words line.now) }
     ensures inside { IfOk result (λ c. IsTrue (are_inside head.now.rows head.now.cols (counted_list c))) }
@@ -159,8 +163,8 @@ fn one_value(line: &[u8]) -> Option<Number>
     }
 }
 
-/// What a line counts for that comes for this place.
-pub(crate) fn listed_entry(head: &Head, row: u32, col: u32, line: &[u8]) -> Result<Counted, Rule>
+/// What a line counts for that comes for this place. Rule M6: it is one value.
+fn listed_entry(head: &Head, row: u32, col: u32, line: &[u8]) -> Result<Counted, Rule>
     requires row { row < head.now.rows }
     requires col { col < head.now.cols }
     requires square { IsTrue (is_square head.now.kind.symmetry head.now.rows head.now.cols) }
@@ -171,4 +175,41 @@ pub(crate) fn listed_entry(head: &Head, row: u32, col: u32, line: &[u8]) -> Resu
         return Err(Rule::M6);
     };
     valued(head, row, col, value)
+}
+
+/// What a line counts for that comes for this place, and the places that are due after it.
+fn next_listed(head: &Head, row: u32, col: u32, line: &[u8]) -> Result<(Counted, Due), Rule>
+    requires row { row < head.now.rows }
+    requires col { col < head.now.cols }
+    requires square { IsTrue (is_square head.now.kind.symmetry head.now.rows head.now.cols) }
+    ensures entry { MatchResult result
+        (λ next. CountsNext head.now (Due.Listed row col) line.now next.0 next.1)
+        (RefusesNext head.now (Due.Listed row col) line.now) }
+    ensures within { IfOk result (λ next. IsTrue (is_due head.now next.1)) }
+    ensures inside { IfOk result (λ next. IsTrue (are_inside head.now.rows head.now.cols (counted_list next.0))) }
+{
+    match listed_entry(head, row, col, line) {
+        Ok(counted) => Ok((counted, due_after(head, row, col))),
+        Err(rule) => Err(rule),
+    }
+}
+
+/// What the next entry line counts for, and the places that are due after it. Rule M11: a line is due.
+pub(crate) fn next_entry(head: &Head, due: Due, line: &[u8]) -> Result<(Counted, Due), Rule>
+    requires square { IsTrue (is_square head.now.kind.symmetry head.now.rows head.now.cols) }
+    requires within { IsTrue (is_due head.now due) }
+    ensures entry { MatchResult result
+        (λ next. CountsNext head.now due line.now next.0 next.1)
+        (RefusesNext head.now due line.now) }
+    ensures within { IfOk result (λ next. IsTrue (is_due head.now next.1)) }
+    ensures inside { IfOk result (λ next. IsTrue (are_inside head.now.rows head.now.cols (counted_list next.0))) }
+{
+    match due {
+        Due::Lines(0) => Err(Rule::M11),
+        Due::Lines(count) => match stated_entry(head, line) {
+            Ok(counted) => Ok((counted, Due::Lines(count - 1))),
+            Err(rule) => Err(rule),
+        },
+        Due::Listed { row, col } => next_listed(head, row, col, line),
+    }
 }

@@ -1,4 +1,4 @@
-use bern_base::Rule;
+use bern_base::{MOST_FILE_BYTES, Rule};
 use thiserror::Error;
 
 /// Why a file has no matrix.
@@ -14,14 +14,13 @@ pub enum MmError {
 /// Why a feed did not take a piece.
 #[derive(Clone, Copy, Debug, PartialEq, Eq, Error)]
 pub enum FeedError {
-    #[error("the file has more than 67108864 bytes")]
+    #[error("the file has more than {} bytes", MOST_FILE_BYTES)]
     TooLong,
     #[error("out of memory")]
     NoMemory,
 }
 
 /// Why a line was not taken.
-#[derive(Clone, Copy, Debug, PartialEq, Eq)]
 pub(crate) enum LineError {
     Broken(Rule),
     NoMemory,

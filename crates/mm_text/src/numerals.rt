@@ -6,7 +6,7 @@ ghost use Rattle.mm_text.specs.Naturals.{StandsFor, IsNumber};
 use bern_base::Val;
 
 /// A number that is spelled by digits, exact below 2^64.
-#[derive(Clone, Copy, Debug, PartialEq, Eq)]
+#[derive(Clone, Copy)]
 pub(crate) enum Natural {
     Small(u64),
     /// 2^64 or more.
@@ -14,7 +14,7 @@ pub(crate) enum Natural {
 }
 
 /// An integer that is spelled by digits and perhaps a sign.
-#[derive(Clone, Copy, Debug, PartialEq, Eq)]
+#[derive(Clone, Copy)]
 pub(crate) enum Number {
     Inside(Val),
     /// Below -2^63, or 2^64 or more.

@@ -40,15 +40,21 @@ pub(crate) fn room_for(head: &Head, to_come: usize) -> usize {
     }
 }
 
-/// Makes room for as many entries as there are, but no more than the file states.
+/// How many entries more to make room for: as many as there are, but no more than the file states.
+fn more_room(head: &Head, len: usize) -> usize
+    ensures { 2 ≤ result }
+{
+    let most = room_for(head, usize::MAX).saturating_sub(len);
+    len.max(BLOCK).min(most).max(2)
+}
+
+/// Makes room for more entries.
 #[inline(never)]
 fn grow(head: &Head, entries: &mut Vec<Entry>) -> Result<(), NoMemory>
     ensures same { entries.new.items ≡ entries.old.items }
     ensures room { OnOk result (vec_len entries.new + 2 ≤ vec_capacity entries.new) }
 {
-    let len = entries.len();
-    let most = room_for(head, usize::MAX).saturating_sub(len);
-    match entries.reserve_exact(len.max(BLOCK).min(most).max(2)) {
+    match entries.reserve_exact(more_room(head, entries.len())) {
         Ok(()) => Ok(()),
         Err(_) => Err(NoMemory),
     }

@@ -5,13 +5,9 @@ ghost use Rattle.mm_text.specs.Naturals.{StandsFor};
 
 use crate::number_words::next_natural;
 use crate::numerals::{Natural, read_natural};
-use crate::word_list::{next_word, three_words};
-use bern_base::Rule;
+use crate::word_list::{next_word, one_word};
+use bern_base::{MOST_ENTRIES, MOST_SIDE, Rule};
 use mm_profile::{Format, Head, Kind, Symmetry};
-
-const MAX_SIDE: u32 = 4_194_304;
-
-const MAX_STATED: u32 = 16_777_216;
 
 /// The numbers of a line of two numbers.
 pub(crate) fn two_numbers(line: &[u8]) -> Option<(Natural, Natural)>
@@ -38,10 +34,9 @@ fn three_numbers(line: &[u8]) -> Option<(Natural, Natural, Natural)>
         × StandsFor n.1 (number_at (words line.now) 1)
         × StandsFor n.2 (number_at (words line.now) 2)) }
 {
-    let (first, second, third) = three_words(line)?;
-    let first = read_natural(first)?;
-    let second = read_natural(second)?;
-    let third = read_natural(third)?;
+    let (first, after_first) = next_natural(line)?;
+    let (second, after_second) = next_natural(after_first)?;
+    let third = read_natural(one_word(after_second)?)?;
     Some((first, second, third))
 }
 
@@ -71,6 +66,7 @@ fn is_square(symmetry: Symmetry, rows: u32, cols: u32) -> bool
     is_general(symmetry) || rows == cols
 }
 
+/// Rule M5: a file with mirrored elements is square.
 fn square_head(kind: Kind, rows: u32, cols: u32, stated: u32) -> Result<Head, Rule>
     ensures head { result ≡ square_head kind rows cols stated }
     ensures square { IfOk result (λ head. IsTrue (is_square head.kind.symmetry head.rows head.cols)) }
@@ -86,19 +82,20 @@ fn square_head(kind: Kind, rows: u32, cols: u32, stated: u32) -> Result<Head, Ru
     })
 }
 
-/// The head with these sizes, of which the stated number is still to be compared with its limit.
+/// The head with these sizes, of which the stated number is still to be compared with its limit: rule M4.
 fn limited_head(kind: Kind, rows: u32, cols: u32, stated: Natural) -> Result<Head, Rule>
-    requires rows { rows ≤ 4194304 }
-    requires cols { cols ≤ 4194304 }
+    requires rows { rows ≤ MOST_SIDE }
+    requires cols { cols ≤ MOST_SIDE }
     ensures head { (m : ℕ) → StandsFor stated m → result ≡ limited_head kind rows cols m }
     ensures square { IfOk result (λ head. IsTrue (is_square head.kind.symmetry head.rows head.cols)) }
 {
-    match within(MAX_STATED, stated) {
+    match within(MOST_ENTRIES, stated) {
         Some(stated) => square_head(kind, rows, cols, stated),
         None => Err(Rule::M4),
     }
 }
 
+/// Rule M3: the line is three numbers. Rule M4: they are within their limits.
 fn coordinate_head(kind: Kind, line: &[u8]) -> Result<Head, Rule>
     requires { kind.format ≡ Format.Coordinate }
     ensures head { result ≡ head_of kind (words line.now) }
@@ -107,15 +104,16 @@ fn coordinate_head(kind: Kind, line: &[u8]) -> Result<Head, Rule>
     let Some((rows, cols, stated)) = three_numbers(line) else {
         return Err(Rule::M3);
     };
-    let Some(rows) = within(MAX_SIDE, rows) else {
+    let Some(rows) = within(MOST_SIDE, rows) else {
         return Err(Rule::M4);
     };
-    let Some(cols) = within(MAX_SIDE, cols) else {
+    let Some(cols) = within(MOST_SIDE, cols) else {
         return Err(Rule::M4);
     };
     limited_head(kind, rows, cols, stated)
 }
 
+/// Rule M3: the line is two numbers. Rule M4: they, and their product, are within their limits.
 fn array_head(kind: Kind, line: &[u8]) -> Result<Head, Rule>
     requires { kind.format ≡ Format.Array }
     ensures head { result ≡ head_of kind (words line.now) }
@@ -124,16 +122,16 @@ fn array_head(kind: Kind, line: &[u8]) -> Result<Head, Rule>
     let Some((rows, cols)) = two_numbers(line) else {
         return Err(Rule::M3);
     };
-    let Some(rows) = within(MAX_SIDE, rows) else {
+    let Some(rows) = within(MOST_SIDE, rows) else {
         return Err(Rule::M4);
     };
-    let Some(cols) = within(MAX_SIDE, cols) else {
+    let Some(cols) = within(MOST_SIDE, cols) else {
         return Err(Rule::M4);
     };
     limited_head(kind, rows, cols, Natural::Small(rows as u64 * cols as u64))
 }
 
-/// What the size line says.
+/// What the size line says. Rules M3 to M5.
 pub(crate) fn head_of(kind: Kind, line: &[u8]) -> Result<Head, Rule>
     ensures head { result ≡ head_of kind (words line.now) }
     ensures square { IfOk result (λ head. IsTrue (is_square head.kind.symmetry head.rows head.cols)) }

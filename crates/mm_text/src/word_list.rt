@@ -1,18 +1,7 @@
 ghost use Rattle.std.specs.Prelude.{◌≡◌, ◌≢◌, [], ◌∷◌, ◌<◌, ◌≤◌, not, length, position, take, drop, false, slice_index, MatchOption};
 ghost use Rattle.std.specs.List.{position_or_len};
-ghost use Rattle.mm_profile.specs.Lines.{is_blank, without_return, words};
+ghost use Rattle.mm_profile.specs.Lines.{is_blank, words};
 ghost use Rattle.mm_profile.specs.Profile.{is_skipped};
-
-/// The line without one carriage return at its end.
-pub(crate) fn without_return(line: &[u8]) -> &[u8]
-    ensures { result.now ≡ without_return line.now }
-{
-    let len = line.len();
-    if len > 0 && line[len - 1] == b'\r' {
-        return &line[..len - 1];
-    }
-    line
-}
 
 pub(crate) fn is_blank(byte: u8) -> bool
     ensures { result ≡ is_blank byte }
@@ -81,7 +70,7 @@ pub(crate) fn one_word(line: &[u8]) -> Option<&[u8]>
 }
 
 /// The words of a line that has just two.
-pub(crate) fn two_words(line: &[u8]) -> Option<(&[u8], &[u8])>
+fn two_words(line: &[u8]) -> Option<(&[u8], &[u8])>
     ensures { MatchOption result
         (length (words line.now) ≢ 2)
         (λ w. words line.now ≡ w.0.now ∷ w.1.now ∷ []) }
@@ -92,7 +81,7 @@ pub(crate) fn two_words(line: &[u8]) -> Option<(&[u8], &[u8])>
 }
 
 /// The words of a line that has just three.
-pub(crate) fn three_words(line: &[u8]) -> Option<(&[u8], &[u8], &[u8])>
+fn three_words(line: &[u8]) -> Option<(&[u8], &[u8], &[u8])>
     ensures { MatchOption result
         (length (words line.now) ≢ 3)
         (λ w. words line.now ≡ w.0.now ∷ w.1.now ∷ w.2.now ∷ []) }

@@ -8,8 +8,8 @@ use Rattle.bern_base.specs.Affine.{AffineForm, IsSpan, IsInSpan, IsInBox, IsReac
 use Rattle.bern_base.specs.declared.job.ArrayDecl.{ArrayDecl}
 use Rattle.bern_base.specs.declared.job.Checked.{Checked}
 use Rattle.bern_base.specs.declared.matrix.Matrix.{Matrix}
-use Rattle.dense_model.specs.State.{element}
-use Rattle.nest_model.specs.Runnable.{IsIndex, is_dense}
+use Rattle.bern_base.specs.Matrix.{element}
+use Rattle.job_model.specs.Runnable.{IsIndex, is_dense}
 use Rattle.nest_walk.specs.Arrays.{IsArrayOf, IsMatrixOf}
 use Rattle.nest_walk.specs.Boxes.{HasPoint, HasPoints, AreIndices}
 use Rattle.nest_walk.specs.Walks.{AreNear}

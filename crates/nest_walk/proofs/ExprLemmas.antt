@@ -9,8 +9,8 @@ use Rattle.bern_base.specs.declared.job.Expr.{Expr, out-Expr}
 use Rattle.bern_base.specs.declared.job.Factor.{Factor}
 use Rattle.bern_base.specs.declared.job.Factor.TheVariants as factor
 use Rattle.bern_base.specs.declared.job.Ref.{Ref}
-use Rattle.nest_model.specs.Runnable.{IsFactor, IsProduct, IsExpr}
-use Rattle.nest_model.specs.Values.{product_of}
+use Rattle.job_model.specs.Runnable.{IsFactor, IsProduct, IsExpr}
+use Rattle.job_model.specs.Values.{product_of}
 
 -- an expression with a level or more
 pub levels_left : (IsRead : Ref → Type 0) (n : ℕ) (e : Expr) → n ≢ 0 → IsExpr IsRead n e → All (IsProduct IsRead (IsExpr IsRead (n - 1))) (out-Expr e).sums

@@ -7,12 +7,12 @@ use Rattle.bern_base.specs.Affine.{value_at, IsInBox}
 use Rattle.bern_base.specs.declared.job.ArrayDecl.{ArrayDecl}
 use Rattle.bern_base.specs.declared.job.Checked.{Checked}
 use Rattle.bern_base.specs.declared.job.Ref.{Ref}
-use Rattle.dense_model.specs.State.{values_in, read, write}
-use Rattle.nest_model.specs.Elements.{cols_of, element_of}
-use Rattle.nest_model.specs.Nests.{changed, with_changed}
-use Rattle.nest_model.specs.Points.{natural}
-use Rattle.nest_model.specs.Runnable.{IsElementOf, IsElement}
-use Rattle.nest_model.specs.Values.{read_at}
+use Rattle.job_model.specs.State.{values_in, read, write}
+use Rattle.job_model.specs.Elements.{cols_of, element_of}
+use Rattle.job_model.specs.Nests.{changed, with_changed}
+use Rattle.job_model.specs.Points.{natural}
+use Rattle.job_model.specs.Runnable.{IsElementOf, IsElement}
+use Rattle.job_model.specs.Values.{read_at}
 use Rattle.nest_walk.specs.Arrays.{values_of, state_of, IsSound, IsWhole, IsArrayOf, AreArraysOf, IsElementAt, IsReadAt, element_in}
 use Rattle.nest_walk.specs.declared.arrays.ArrayValues.{ArrayValues}
 use Rattle.nest_walk.specs.declared.arrays.ArrayValues.TheVariants.{Dense, Sparse}

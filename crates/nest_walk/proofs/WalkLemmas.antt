@@ -13,10 +13,10 @@ use Rattle.bern_base.specs.Affine.{IsWithin, IsInSpan, IsPoint, number_of, span_
 use Rattle.bern_base.specs.declared.job.ArrayDecl.{ArrayDecl}
 use Rattle.bern_base.specs.declared.job.Nest.{Nest}
 use Rattle.bern_base.specs.declared.job.Span.{Span}
-use Rattle.dense_model.specs.State.{State}
-use Rattle.nest_model.specs.Nests.{at_point, after_nest}
-use Rattle.nest_model.specs.Points.{natural, values_of, choices, bounds_at, spans_of, meets}
-use Rattle.nest_model.specs.Runnable.{IsNear}
+use Rattle.job_model.specs.State.{State}
+use Rattle.job_model.specs.Nests.{at_point, after_nest}
+use Rattle.job_model.specs.Points.{natural, values_of, choices, bounds_at, spans_of, meets}
+use Rattle.job_model.specs.Runnable.{IsNear}
 use Rattle.nest_walk.specs.Walks.{visited, points_from, walked, points_below, AreChosen, IsNearSpan, AreNear}
 
 natural_below : (z : ℤ) (k : ℕ) → k < natural z → pos k <ℤ z
@@ -132,7 +132,7 @@ walked_more arrays nest first before after values depth spans lo k within so_far
     ∙ sym (fold-append (visited arrays nest) first (points_below front spans lo k) (points_from (front ++ (lo +ℤ pos k) ∷ []) spans))
     ∙ ap (walked arrays nest first) (sym (below_more front spans lo k))
 
--- behind all values of a variable
+-- after all values of a variable
 pub walked_all : (arrays : List ArrayDecl) (nest : Nest) (first after : State) (front : List ℤ) (depth : ℕ) (spans : List (ℤ × ℤ)) (span : ℤ × ℤ) (k count : ℕ) → depth < length spans → span ≡ span_of spans depth →
     count ≡ natural (span.1 -ℤ span.0) → k ≡ count → after ≡ walked arrays nest first (points_below front (drop (depth + 1) spans) span.0 k) →
     after ≡ walked arrays nest first (points_from front (drop depth spans))

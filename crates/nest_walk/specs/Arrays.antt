@@ -1,14 +1,14 @@
 -- The values of a job's arrays, and the elements that are read and changed at a point.
 use Rattle.std.specs.Prelude.{Bool, false, ◌≡◌, ℕ, ◌+◌, ◌*◌, List, true, Some, ℤ, pos, ◌≤ℤ◌, ◌<ℤ◌, length, map, slice_get}
 use Rattle.bern_base.specs.Affine.{value_at}
-use Rattle.bern_base.specs.Matrix.{IsMatrix}
+use Rattle.bern_base.specs.Matrix.{IsMatrix, matrix_values}
 use Rattle.bern_base.specs.declared.job.ArrayDecl.{ArrayDecl}
 use Rattle.bern_base.specs.declared.job.Checked.{Checked}
 use Rattle.bern_base.specs.declared.job.Ref.{Ref}
 use Rattle.bern_base.specs.declared.matrix.Matrix.{Matrix}
-use Rattle.dense_model.specs.State.{State, matrix_values}
-use Rattle.nest_model.specs.Points.{natural}
-use Rattle.nest_model.specs.Runnable.{is_dense}
+use Rattle.job_model.specs.State.{State}
+use Rattle.job_model.specs.Points.{natural}
+use Rattle.job_model.specs.Runnable.{is_dense}
 use Rattle.nest_walk.specs.declared.arrays.ArrayValues.{ArrayValues}
 use Rattle.nest_walk.specs.declared.arrays.ArrayValues.TheVariants.{Dense, Sparse}
 
@@ -45,7 +45,8 @@ pub record IsMatrixOf (whole : Bool) (size : ℕ) (matrix : Matrix) : Type 0 whe
 -- values of each array of a job
 pub record AreArraysOf (job : Checked) (arrays : List ArrayValues) : Type 0 where
   pub long : length arrays ≡ length job.arrays
-  pub each : (number : ℕ) (array : ArrayDecl) (values : ArrayValues) → slice_get job.arrays number ≡ Some array → slice_get arrays number ≡ Some values → IsArrayOf job array values
+  pub each : (number : ℕ) (array : ArrayDecl) (values : ArrayValues) →
+      slice_get job.arrays number ≡ Some array → slice_get arrays number ≡ Some values → IsArrayOf job array values
 
 -- an index of an axis of this length
 abbrev pub IsIndexAt : ℕ → ℤ → Type 0

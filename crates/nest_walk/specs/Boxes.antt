@@ -3,7 +3,7 @@ use Rattle.std.specs.Prelude.{ℕ, List, ℤ, pos, ◌≤ℤ◌, ◌<ℤ◌}
 use Rattle.bern_base.specs.Affine.{span_of}
 use Rattle.bern_base.specs.declared.job.ArrayDecl.{ArrayDecl}
 use Rattle.bern_base.specs.declared.job.Ref.{Ref}
-use Rattle.nest_model.specs.Runnable.{IsIndex}
+use Rattle.job_model.specs.Runnable.{IsIndex}
 
 abbrev pub HasPoint : ℤ × ℤ → Type 0
 HasPoint span = span.0 <ℤ span.1

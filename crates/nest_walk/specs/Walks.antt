@@ -4,11 +4,11 @@ use Rattle.std.specs.List.{fold, flat_map, range_with_len}
 use Rattle.bern_base.specs.Affine.{IsWithin, IsInSpan, number_of, span_of}
 use Rattle.bern_base.specs.declared.job.ArrayDecl.{ArrayDecl}
 use Rattle.bern_base.specs.declared.job.Nest.{Nest}
-use Rattle.dense_model.specs.State.{State}
-use Rattle.nest_model.specs.Nests.{at_point}
-use Rattle.nest_model.specs.Points.{choices, meets}
+use Rattle.job_model.specs.State.{State}
+use Rattle.job_model.specs.Nests.{at_point}
+use Rattle.job_model.specs.Points.{choices, meets}
 
--- one turn where the guards hold, and nothing elsewhere
+-- one point where the guards hold, and nothing elsewhere
 abbrev pub visited : List ArrayDecl → Nest → State → List ℤ → State
 visited arrays nest state point = if meets nest.guards point then at_point arrays nest state point else state
 
@@ -16,7 +16,7 @@ visited arrays nest state point = if meets nest.guards point then at_point array
 abbrev pub points_from : List ℤ → List (ℤ × ℤ) → List (List ℤ)
 points_from front spans = map (λ rest. front ++ rest) (choices spans)
 
--- the state behind these points
+-- the state after these points
 abbrev pub walked : List ArrayDecl → Nest → State → List (List ℤ) → State
 walked arrays nest state points = fold (visited arrays nest) state points
 

@@ -1,8 +1,7 @@
 ghost use Rattle.std.specs.Prelude.{◌≡◌, ◌<◌, Bool, length, slice_index, slice_set};
-ghost use Rattle.nest_model.specs.Nests.{changed};
+ghost use Rattle.job_model.specs.Nests.{changed};
 ghost use Rattle.nest_walk.specs.Arrays.{values_of, IsSound, IsWhole};
 
-use crate::sparse::stored_value;
 use bern_base::{Items, Matrix, Val};
 
 /// The values of an array, by element number: row * cols + col.
@@ -23,7 +22,7 @@ impl ArrayValues {
     {
         match self {
             ArrayValues::Dense(values) => *values.at(element),
-            ArrayValues::Sparse(matrix) => stored_value(matrix, element as u64),
+            ArrayValues::Sparse(matrix) => matrix.value(element as u64),
         }
     }
 
@@ -31,7 +30,8 @@ impl ArrayValues {
     pub(crate) fn change(&mut self, replace: bool, element: usize, value: Val)
         requires whole { IsWhole self.old }
         requires inside { element < length (values_of self.old) }
-        ensures values { values_of self.new ≡ slice_set (values_of self.old) element (changed replace (slice_index (values_of self.old) element) value) }
+        ensures values { values_of self.new ≡ slice_set (values_of self.old) element
+            (changed replace (slice_index (values_of self.old) element) value) }
         ensures whole { IsWhole self.new }
     {
         match self {

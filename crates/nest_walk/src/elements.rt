@@ -1,5 +1,5 @@
 ghost use Rattle.std.specs.Prelude.{◌≡◌, ◌*◌, ◌<◌};
-ghost use Rattle.nest_model.specs.Points.{natural};
+ghost use Rattle.job_model.specs.Points.{natural};
 ghost use Rattle.bern_base.specs.Affine.{value_at};
 ghost use Rattle.nest_walk.specs.Arrays.{IsIndexAt, IsElementAt, element_in};
 

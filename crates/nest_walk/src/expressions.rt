@@ -1,6 +1,6 @@
 ghost use Rattle.std.specs.Prelude.{◌≡◌};
-ghost use Rattle.nest_model.specs.Runnable.{IsExpr, IsProduct, IsFactor};
-ghost use Rattle.nest_model.specs.Values.{sum_value, product_value, unsigned_value, factor_value, read_at};
+ghost use Rattle.job_model.specs.Runnable.{IsExpr, IsProduct, IsFactor};
+ghost use Rattle.job_model.specs.Values.{sum_value, product_value, unsigned_value, factor_value, read_at};
 ghost use Rattle.nest_walk.specs.Arrays.{AreArraysOf, IsReadAt, state_of};
 
 use crate::arrays::ArrayValues;
@@ -20,7 +20,7 @@ fn read(job: &Checked, arrays: &[ArrayValues], point: &Point, reference: &Ref) -
 
 /// The value of an expression of at most so many levels at a point.
 #[cycle(values)]
-#[tactic(auto, unfolding(nest_model::specs::Values::sum_value))]
+#[tactic(auto, unfolding(bern_base::specs::Expressions::by_levels))]
 pub(crate) fn sum_value(
     job: &Checked,
     arrays: &[ArrayValues],
@@ -53,7 +53,8 @@ fn product_value(
 ) -> Val
     requires arrays { AreArraysOf job.now arrays.now }
     requires inside { IsProduct (IsReadAt job.now.arrays point.now) (IsExpr (IsReadAt job.now.arrays point.now) levels) product.now }
-    ensures { result ≡ product_value (read_at job.now.arrays (state_of arrays.now) point.now) (sum_value (read_at job.now.arrays (state_of arrays.now) point.now) levels) product.now }
+    ensures { result ≡ product_value (read_at job.now.arrays (state_of arrays.now) point.now)
+        (sum_value (read_at job.now.arrays (state_of arrays.now) point.now) levels) product.now }
 {
     let value = unsigned_value(job, arrays, point, levels, product);
     if product.minus { value.neg() } else { value }
@@ -69,7 +70,8 @@ fn unsigned_value(
 ) -> Val
     requires arrays { AreArraysOf job.now arrays.now }
     requires inside { IsProduct (IsReadAt job.now.arrays point.now) (IsExpr (IsReadAt job.now.arrays point.now) levels) product.now }
-    ensures { result ≡ unsigned_value (read_at job.now.arrays (state_of arrays.now) point.now) (sum_value (read_at job.now.arrays (state_of arrays.now) point.now) levels) product.now }
+    ensures { result ≡ unsigned_value (read_at job.now.arrays (state_of arrays.now) point.now)
+        (sum_value (read_at job.now.arrays (state_of arrays.now) point.now) levels) product.now }
 {
     let mut value = Val::new(1);
     for factor in product.factors.as_slice() {
@@ -88,7 +90,8 @@ fn factor_value(
 ) -> Val
     requires arrays { AreArraysOf job.now arrays.now }
     requires inside { IsFactor (IsReadAt job.now.arrays point.now) (IsExpr (IsReadAt job.now.arrays point.now) levels) factor.now }
-    ensures { result ≡ factor_value (read_at job.now.arrays (state_of arrays.now) point.now) (sum_value (read_at job.now.arrays (state_of arrays.now) point.now) levels) factor.now }
+    ensures { result ≡ factor_value (read_at job.now.arrays (state_of arrays.now) point.now)
+        (sum_value (read_at job.now.arrays (state_of arrays.now) point.now) levels) factor.now }
 {
     match factor {
         Factor::Num(number) => *number,

@@ -1,4 +1,4 @@
-//! A plain evaluator of nests: it walks all points of each nest in program order.
+//! A plain evaluator of nests: turn by turn it walks all points of a nest in program order.
 #![tactic(auto)]
 
 mod arrays;
@@ -9,9 +9,6 @@ mod first;
 mod guards;
 mod runnable;
 mod runs;
-mod sparse;
-#[cfg(test)]
-mod tests;
 mod walk;
 
 pub use arrays::ArrayValues;

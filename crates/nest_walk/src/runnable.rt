@@ -1,13 +1,14 @@
 ghost use Rattle.std.specs.Prelude.{◌≡◌, ◌↔◌, IsTrue};
 ghost use Rattle.std.specs.List.{All};
 ghost use Rattle.bern_base.specs.Affine.{IsSpan, IsWithin};
-ghost use Rattle.nest_model.specs.Runnable.{IsExpr, IsProduct, IsFactor, IsElement, IsIndex, IsNear, IsTarget, IsRunnableNest, IsRunnable, is_dense};
+ghost use Rattle.job_model.specs.Runnable.{IsExpr, IsProduct, IsFactor, IsElement, IsIndex, IsNear, IsTarget, IsRunnableNest, IsRunnable, is_dense};
 ghost use Rattle.nest_walk.specs.Walks.{AreNear};
 ghost use Rattle.nest_walk.specs.Boxes.{HasPoints, HasPoint, AreIndices, IsInsideOf};
 
-use crate::walk::{LEVELS, spans_of};
+use crate::walk::spans_of;
 use bern_base::{
-    Affine, ArrayDecl, Checked, Expr, Factor, FormatDecl, Nest, Product, Ref, Shape, Span,
+    Affine, ArrayDecl, Checked, EXPRESSION_LEVELS, Expr, Factor, FormatDecl, MOST_VARIABLES, Nest,
+    Product, Ref, Span,
 };
 
 /// Whether each span has a value.
@@ -73,7 +74,7 @@ pub fn is_dense(formats: &[FormatDecl], array: &ArrayDecl) -> bool
     ensures { result ≡ is_dense formats.now array.now }
 {
     match formats.get(array.format as usize) {
-        Some(format) => matches!(format.shape, Shape::DenseOne | Shape::DenseDense(_)),
+        Some(format) => format.shape.is_all_dense(),
         None => false,
     }
 }
@@ -93,7 +94,7 @@ fn is_target(job: &Checked, spans: &[(i64, i64); 4], reference: &Ref) -> bool
 
 /// Whether an expression has at most so many levels, and all its references are elements at each point of a box.
 #[cycle(exprs)]
-#[tactic(auto, unfolding(nest_model::specs::Runnable::IsExpr))]
+#[tactic(auto, unfolding(job_model::specs::Runnable::IsExpr))]
 fn is_expr(job: &Checked, spans: &[(i64, i64); 4], levels: u32, expr: &Expr) -> bool
     requires { AreNear spans.now }
     ensures { IsTrue result ↔ IsExpr (IsElement job.now.arrays spans.now) levels expr.now }
@@ -112,7 +113,8 @@ fn is_expr(job: &Checked, spans: &[(i64, i64); 4], levels: u32, expr: &Expr) -> 
 #[cycle(exprs)]
 fn is_product(job: &Checked, spans: &[(i64, i64); 4], levels: u32, product: &Product) -> bool
     requires { AreNear spans.now }
-    ensures { IsTrue result ↔ IsProduct (IsElement job.now.arrays spans.now) (IsExpr (IsElement job.now.arrays spans.now) levels) product.now }
+    ensures { IsTrue result ↔ IsProduct (IsElement job.now.arrays spans.now)
+        (IsExpr (IsElement job.now.arrays spans.now) levels) product.now }
 {
     for factor in product.factors.as_slice() {
         if !is_factor(job, spans, levels, factor) {
@@ -125,7 +127,8 @@ fn is_product(job: &Checked, spans: &[(i64, i64); 4], levels: u32, product: &Pro
 #[cycle(exprs)]
 fn is_factor(job: &Checked, spans: &[(i64, i64); 4], levels: u32, factor: &Factor) -> bool
     requires { AreNear spans.now }
-    ensures { IsTrue result ↔ IsFactor (IsElement job.now.arrays spans.now) (IsExpr (IsElement job.now.arrays spans.now) levels) factor.now }
+    ensures { IsTrue result ↔ IsFactor (IsElement job.now.arrays spans.now)
+        (IsExpr (IsElement job.now.arrays spans.now) levels) factor.now }
 {
     match factor {
         Factor::Num(_) => true,
@@ -160,11 +163,11 @@ fn are_near(vars: &[Span]) -> bool
 fn is_runnable_nest(job: &Checked, nest: &Nest) -> bool
     ensures { IsTrue result ↔ IsRunnableNest job.now nest.now }
 {
-    if nest.vars.len() > 4 || !are_near(nest.vars.as_slice()) {
+    if nest.vars.len() > MOST_VARIABLES || !are_near(nest.vars.as_slice()) {
         return false;
     }
     let spans = spans_of(nest.vars.as_slice());
-    is_target(job, &spans, &nest.target) && is_expr(job, &spans, LEVELS, &nest.body)
+    is_target(job, &spans, &nest.target) && is_expr(job, &spans, EXPRESSION_LEVELS, &nest.body)
 }
 
 /// Whether the nests of a job can be run: the test for what `run_nests` needs of it.

@@ -1,7 +1,7 @@
 ghost use Rattle.std.specs.Prelude.{◌≡◌, ◌≤◌, ◌<◌, length, pos, ◌+ℤ◌, ◌-ℤ◌, take, drop, slice_set};
 ghost use Rattle.bern_base.specs.Affine.{IsInBox, span_of};
-ghost use Rattle.nest_model.specs.Points.{natural, bounds_at, spans_of};
-ghost use Rattle.nest_model.specs.Runnable.{IsRunnableNest};
+ghost use Rattle.job_model.specs.Points.{natural, bounds_at, spans_of};
+ghost use Rattle.job_model.specs.Runnable.{IsRunnableNest};
 ghost use Rattle.nest_walk.specs.Arrays.{AreArraysOf, state_of};
 ghost use Rattle.nest_walk.specs.Walks.{visited, walked, points_from, AreChosen, AreNear, IsNearSpan};
 
@@ -9,10 +9,7 @@ use crate::arrays::ArrayValues;
 use crate::elements::element_number;
 use crate::expressions::sum_value;
 use crate::guards::meets;
-use bern_base::{Checked, Nest, Point, Span};
-
-/// How deep expressions may stand in one another.
-pub(crate) const LEVELS: u32 = 17;
+use bern_base::{Checked, EXPRESSION_LEVELS, Nest, Point, Span};
 
 /// The bounds of a variable; one that the nest does not have is 0 alone.
 fn bounds_at(vars: &[Span], v: usize) -> (i64, i64)
@@ -67,7 +64,7 @@ fn with_value(mut values: [i64; 4], v: usize, span: (i64, i64), k: u64) -> [i64;
     values
 }
 
-/// One turn of a nest: where the guards hold, the target is changed.
+/// One point of a nest: where the guards hold, the target is changed.
 fn visit(job: &Checked, nest: &Nest, point: &Point, arrays: &mut [ArrayValues])
     requires runnable { IsRunnableNest job.now nest.now }
     requires arrays { AreArraysOf job.now arrays.old }
@@ -78,7 +75,7 @@ fn visit(job: &Checked, nest: &Nest, point: &Point, arrays: &mut [ArrayValues])
     if !meets(nest.guards.as_slice(), point) {
         return;
     }
-    let value = sum_value(job, arrays, point, LEVELS, &nest.body);
+    let value = sum_value(job, arrays, point, EXPRESSION_LEVELS, &nest.body);
     let number = nest.target.array as usize;
     let element = element_number(job.arrays.at(number), &nest.target, point);
     arrays[number].change(nest.replace, element as usize, value);
@@ -100,7 +97,8 @@ pub(crate) fn walk(
     requires depth { depth ≤ 4 }
     requires four { length values ≡ 4 }
     requires chosen { AreChosen spans.now depth values }
-    ensures state { state_of arrays.new ≡ walked job.now.arrays nest.now (state_of arrays.old) (points_from (take depth values) (drop depth spans.now)) }
+    ensures state { state_of arrays.new ≡ walked job.now.arrays nest.now (state_of arrays.old)
+        (points_from (take depth values) (drop depth spans.now)) }
     ensures arrays { AreArraysOf job.now arrays.new }
 {
     if depth == 4 {

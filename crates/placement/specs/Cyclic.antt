@@ -17,4 +17,5 @@ pub record IsDealtInTurn (extent ranks block : ℕ) (ts : List Triple) : Type 0 
   pub global : (p l : ℕ) → l < owned_of ts p → global_of ts p l ≡ l / block * (block * ranks) + p * block + l % block
 
 abbrev pub BlocksAreDealtInTurn : Type 0
-BlocksAreDealtInTurn = (extent ranks block : ℕ) → 0 < ranks → 0 < block → IsDealtInTurn extent ranks block (cyclic_triples extent ranks block)
+BlocksAreDealtInTurn =
+    (extent ranks block : ℕ) → 0 < ranks → 0 < block → IsDealtInTurn extent ranks block (cyclic_triples extent ranks block)

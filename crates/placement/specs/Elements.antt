@@ -29,4 +29,6 @@ pub record AreOwnedOnce (axis : Axis) (ranks : ℕ) (ts : List Triple) (rows col
   pub entry : (e : Entry) → IsInside rows cols e → owner_of_element axis ts cols (number cols e) ≡ owner_of_entry axis ts e
 
 abbrev pub ElementsAreOwnedOnce : Type 0
-ElementsAreOwnedOnce = (axis : Axis) (ranks : ℕ) (ts : List Triple) (rows cols : ℕ) → IsPlacement ranks ts → extent_on axis rows cols ≡ length ts → AreOwnedOnce axis ranks ts rows cols
+ElementsAreOwnedOnce =
+    (axis : Axis) (ranks : ℕ) (ts : List Triple) (rows cols : ℕ) →
+    IsPlacement ranks ts → extent_on axis rows cols ≡ length ts → AreOwnedOnce axis ranks ts rows cols

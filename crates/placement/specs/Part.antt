@@ -84,8 +84,11 @@ held axis ts ranks m = flat_map (λ p. map (held_by p) (part_of axis ts p m).mat
 -- the parts hold each entry at its owner, once, with its local index; and the globals of a part lead back to the entries
 pub record IsSharedOut (axis : Axis) (ranks : ℕ) (ts : List Triple) (m : Matrix) : Type 0 where
   pub once : IsPermutation (shared_out axis ts m) (held axis ts ranks m)
-  pub back : (p : ℕ) → map (globalized axis (part_of axis ts p m).globals) (part_of axis ts p m).matrix.entries ≡ filter (is_owned axis ts p) m.entries
+  pub back : (p : ℕ) →
+      map (globalized axis (part_of axis ts p m).globals) (part_of axis ts p m).matrix.entries ≡ filter (is_owned axis ts p) m.entries
 
 -- whatever the placement and the matrix
 abbrev pub PartsShareAMatrix : Type 0
-PartsShareAMatrix = (ranks : ℕ) (ts : List Triple) (axis : Axis) (m : Matrix) → IsPlacement ranks ts → IsMatrix m → extent_on axis m.rows m.cols ≡ length ts → IsSharedOut axis ranks ts m
+PartsShareAMatrix =
+    (ranks : ℕ) (ts : List Triple) (axis : Axis) (m : Matrix) →
+    IsPlacement ranks ts → IsMatrix m → extent_on axis m.rows m.cols ≡ length ts → IsSharedOut axis ranks ts m

@@ -1,5 +1,4 @@
 ghost use Rattle.std.specs.Prelude.{◌≡◌, ◌<◌, ◌*◌, ◌^◌, length};
-ghost use Rattle.placement.specs.Cyclic.{BlocksAreDealtInTurn};
 
 use crate::place::Placement;
 
@@ -102,9 +101,3 @@ impl Placement for Cyclic {
         (turns + p as u64 * self.block as u64 + (l % self.block) as u64) as u32
     }
 }
-
-/// Owners, local numbers and indices of blocks dealt in turn, by their formulas. The function does nothing: its contract
-/// is the law.
-pub fn blocks_are_dealt_in_turn()
-    ensures { BlocksAreDealtInTurn }
-{}

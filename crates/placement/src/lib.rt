@@ -4,11 +4,11 @@
 #![tactic(auto)]
 
 mod cyclic;
+mod laws;
 mod part;
 mod place;
-#[cfg(test)]
-mod tests;
 
-pub use cyclic::{Cyclic, blocks_are_dealt_in_turn};
-pub use part::{Part, elements_are_owned_once, parts_share_a_matrix, split};
+pub use cyclic::Cyclic;
+pub use laws::{blocks_are_dealt_in_turn, elements_are_owned_once, parts_share_a_matrix};
+pub use part::{Part, split};
 pub use place::Placement;

@@ -2,8 +2,7 @@ ghost use Rattle.std.specs.Prelude.{◌≡◌, ◌≢◌, ◌<◌, length, map, 
 ghost use Rattle.std.specs.List.Sorted.{IsStrictlyIncreasing};
 ghost use Rattle.bern_base.specs.Matrix.{IsMatrix};
 ghost use Rattle.placement.specs.Placement.{owned_indices};
-ghost use Rattle.placement.specs.Part.{index_on, extent_on, part_rows, part_cols, with_index, is_owned, localized, part_of, PartsShareAMatrix};
-ghost use Rattle.placement.specs.Elements.{ElementsAreOwnedOnce};
+ghost use Rattle.placement.specs.Part.{index_on, extent_on, part_rows, part_cols, with_index, is_owned, localized, part_of};
 
 use crate::place::Placement;
 use bern_base::{Axis, Entry, Items, Matrix, NoMemory};
@@ -123,15 +122,3 @@ fn globals<P: Placement>(alloc: Global, place: &P, rank: u32) -> Result<Items<u3
     }
     Ok(Items::from_vec(globals))
 }
-
-/// Over all ranks the parts hold each entry of a matrix once, at its owner and with its local index. The function does
-/// nothing: its contract is the law.
-pub fn parts_share_a_matrix()
-    ensures { PartsShareAMatrix }
-{}
-
-/// Each element of an array is owned by one rank, which is the owner of an entry there. The function does nothing: its
-/// contract is the law.
-pub fn elements_are_owned_once()
-    ensures { ElementsAreOwnedOnce }
-{}

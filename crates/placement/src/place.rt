@@ -37,14 +37,17 @@ pub trait Placement {
 
     ghost owner_is_a_rank: { (s : Self) (i : ℕ) → i < length (triples s) → owner_of (triples s) i < ranks s };
 
-    ghost global_is_an_index: { (s : Self) (p l : ℕ) → l < owned_of (triples s) p → global_of (triples s) p l < length (triples s) };
+    ghost global_is_an_index: { (s : Self) (p l : ℕ) → l < owned_of (triples s) p →
+        global_of (triples s) p l < length (triples s) };
 
     ghost global_undoes_local: { (s : Self) (i : ℕ) → i < length (triples s) →
         global_of (triples s) (owner_of (triples s) i) (local_of (triples s) i) ≡ i };
 
-    ghost owner_of_global: { (s : Self) (p l : ℕ) → l < owned_of (triples s) p → owner_of (triples s) (global_of (triples s) p l) ≡ p };
+    ghost owner_of_global: { (s : Self) (p l : ℕ) → l < owned_of (triples s) p →
+        owner_of (triples s) (global_of (triples s) p l) ≡ p };
 
-    ghost local_of_global: { (s : Self) (p l : ℕ) → l < owned_of (triples s) p → local_of (triples s) (global_of (triples s) p l) ≡ l };
+    ghost local_of_global: { (s : Self) (p l : ℕ) → l < owned_of (triples s) p →
+        local_of (triples s) (global_of (triples s) p l) ≡ l };
 
     ghost local_is_owned: { (s : Self) (i : ℕ) → i < length (triples s) →
         local_of (triples s) i < owned_of (triples s) (owner_of (triples s) i) };

@@ -1,12 +1,11 @@
 -- One run, worked by hand: two ranks and three rows, of which rank 0 owns the first two.
-use Rattle.std.specs.Prelude.{◌≡◌, ℕ, ◌-◌, ◌^◌, ◌==◌, ◌||◌, List, [], ◌∷◌, Some, None, refl}
+use Rattle.std.specs.Prelude.{◌≡◌, ℕ, if◌then◌else◌, ◌+◌, ◌-◌, ◌^◌, ◌==◌, ◌||◌, List, [], ◌∷◌, Some, None, refl}
 use Rattle.bern_base.specs.declared.letter.Letter.TheVariants.{Request, Values}
 use Rattle.bern_base.specs.declared.matrix.Entry.{Entry}
 use Rattle.placement.specs.Placement.{Triple, owner_of, local_of, owned_indices}
-use Rattle.rank_model.specs.Letters.{request, values_letter}
-use Rattle.rank_model.specs.Runs.{Run, answer, answer_part, part_values}
-use Rattle.rank_model.specs.Sets.{used, receive, send}
-use Rattle.rank_model.specs.States.{state_before, end_state}
+use Rattle.rank_model.specs.Products.{Run, answer, answer_part, end_state, part_values, receive, schedule, send, state_before, used}
+use Rattle.rank_model.specs.Schedules.{Schedule, request, scripts_of, values_letter}
+use Rattle.rank_scripts.specs.Scripts.{book}
 
 abbrev entry_at : ℕ → ℕ → ℕ → Entry
 entry_at row col value = record { row = row; col = col; value = value }
@@ -66,12 +65,12 @@ none_of_its_own : receive run 0 0 ≡ []
 unfolding owner_of
 none_of_its_own = refl
 
-asked : request run 1 0 ≡ Request (record { sets = record { nest = 0; owner = 0; array = 1; elements = 1 ∷ [] } ∷ [] })
+asked : request (schedule run) 1 0 ≡ Request (record { sets = record { nest = 0; owner = 0; array = 1; elements = 1 ∷ [] } ∷ [] })
 unfolding owner_of
 asked = refl
 
 -- the letters of values go the other way
-valued : values_letter run 0 0 1 ≡ Some (Values 0 (8 ∷ []))
+valued : values_letter (schedule run) 0 0 1 ≡ Some (Values 0 (8 ∷ []))
 unfolding owner_of
 valued = refl
 
@@ -79,11 +78,11 @@ valued = refl
 abbrev diagonal : Run
 diagonal = record run { entries = entry_at 0 0 2 ∷ entry_at 2 2 1 ∷ [] }
 
-asked_nothing : request diagonal 1 0 ≡ Request (record { sets = [] })
+asked_nothing : request (schedule diagonal) 1 0 ≡ Request (record { sets = [] })
 unfolding owner_of
 asked_nothing = refl
 
-no_values : values_letter diagonal 0 0 1 ≡ None
+no_values : values_letter (schedule diagonal) 0 0 1 ≡ None
 unfolding owner_of
 no_values = refl
 
@@ -98,3 +97,15 @@ held_before = refl
 held_at_the_end : part_values run (end_state run) 2 1 ≡ 57 ∷ []
 unfolding owned_indices
 held_at_the_end = refl
+
+-- three turns, in the first and the last of which rank 0 has a value for rank 1: each letter names its turn
+abbrev three_turns : Schedule
+three_turns = record {
+  ranks = 2;
+  turns = 3;
+  needs = λ p q. [];
+  values = λ turn p q. if turn == 1 then [] else (turn + 40) ∷ [];
+}
+
+posted_in_turns : book (scripts_of three_turns) 0 1 ≡ Request (record { sets = [] }) ∷ Values 0 (40 ∷ []) ∷ Values 2 (42 ∷ []) ∷ []
+posted_in_turns = refl

@@ -1,4 +1,2 @@
-pub mod Runs
-pub mod States
-pub mod Sets
-pub mod Letters
+pub mod Schedules
+pub mod Products

@@ -11,14 +11,12 @@ use Rattle.std.proofs.lemmas.List.FromFn.{get_or-map-range_with_len, length-map-
 use Rattle.bern_base.specs.declared.axes.Axis.TheVariants.{Row}
 use Rattle.bern_base.specs.declared.matrix.Entry.{Entry}
 use Rattle.bern_base.specs.Ring.{ring_add}
-use Rattle.dense_model.specs.State.{read}
+use Rattle.job_model.specs.State.{read}
 use Rattle.placement.specs.Placement.{owner_of, local_of, owned_indices, owned_of, global_of}
 use Rattle.placement.specs.PlacementLaws.{kept, owner-below, global-below, global-owner-local, owner-global, local-global}
 use Rattle.placement.specs.Part.{localized}
 use Rattle.placement.proofs.IndexLemmas.{length-owned_indices, get_or-owned_indices}
-use Rattle.rank_model.specs.Runs.{Run, IsRun, is_home, answer, answer_part, part_values}
-use Rattle.rank_model.specs.Sets.{reads}
-use Rattle.rank_model.specs.States.{term_at, end_value, end_state}
+use Rattle.rank_model.specs.Products.{IsRun, Run, answer, answer_part, end_state, end_value, is_home, part_values, reads, term_at}
 use Rattle.rank_node.specs.Waits.{AreKnown}
 use Rattle.rank_node.specs.Sums.{is_inner, inner_term, outer_term, HaveGrown, sums_of}
 use Rattle.rank_node.proofs.ListLemmas.{length-zeros}

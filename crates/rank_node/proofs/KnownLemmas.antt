@@ -7,19 +7,18 @@ use Rattle.std.proofs.lemmas.List.{get_or-map}
 use Rattle.std.proofs.lemmas.List.FromFn.{length-range_with_len, get_or-range_with_len}
 use Rattle.bern_base.specs.declared.letter.Letter.{Letter}
 use Rattle.bern_base.specs.declared.letter.Letter.TheVariants as letter
-use Rattle.dense_model.specs.State.{read}
+use Rattle.job_model.specs.State.{read}
 use Rattle.placement.specs.Placement.{owner_of}
 use Rattle.placement.specs.PlacementLaws.{kept}
 use Rattle.rank_scripts.specs.Scripts.{named}
 use Rattle.rank_scripts.specs.Nodes.{has_all}
 use Rattle.rank_scripts.proofs.RankLemmas.{all_below_at}
-use Rattle.rank_scripts.proofs.RoundLemmas.{book-nests, book-own}
-use Rattle.rank_model.specs.Runs.{Run, answer}
-use Rattle.rank_model.specs.Sets.{reads, is_received, receive}
-use Rattle.rank_model.specs.Letters.{request, values_letter, values_of, rounds, scripts}
+use Rattle.rank_scripts.proofs.RoundLemmas.{book-turns, book-own}
+use Rattle.rank_model.specs.Products.{Run, answer, is_received, reads, receive, scripts, schedule}
+use Rattle.rank_model.specs.Schedules.{request, rounds, some_values, values_letter}
 use Rattle.rank_node.specs.declared.stage.Stage.TheVariants.{Outer}
 use Rattle.rank_node.specs.declared.node.Node.{Node}
-use Rattle.rank_node.specs.Letters.{letter_values, nest_values}
+use Rattle.rank_node.specs.Letters.{letter_values, turn_values}
 use Rattle.rank_node.specs.Positions.{passed_of}
 use Rattle.rank_node.specs.Waits.{letters_from, due_for, AreKnown}
 use Rattle.rank_node.specs.Sets.{ArePut}
@@ -27,14 +26,14 @@ use Rattle.rank_node.specs.NodeStates.{IsNode}
 use Rattle.rank_node.proofs.PositionLemmas.{named_values}
 
 -- the values in a front of a book that is long enough
-nest_front : (given : List Letter) (request : Letter) (f : ℕ → ℕ) (ws : List ℕ) → take (length given) (request ∷ cons_option (values_of 0 (map f ws)) []) ≡ given → due_for ws ≤ length given →
-    nest_values given ≡ map f ws
-nest_front [] request f [] front due = absurd (omega arith)
-nest_front (l ∷ []) request f [] front due = refl
-nest_front (l ∷ m ∷ given) request f [] front due = absurd (cc)
-nest_front [] request f (w ∷ ws) front due = absurd (omega arith)
-nest_front (l ∷ []) request f (w ∷ ws) front due = absurd (omega arith)
-nest_front (l ∷ m ∷ given) request f (w ∷ ws) front due =
+turn_front : (given : List Letter) (request : Letter) (f : ℕ → ℕ) (ws : List ℕ) → take (length given) (request ∷ cons_option (some_values 0 (map f ws)) []) ≡ given → due_for ws ≤ length given →
+    turn_values given ≡ map f ws
+turn_front [] request f [] front due = absurd (omega arith)
+turn_front (l ∷ []) request f [] front due = refl
+turn_front (l ∷ m ∷ given) request f [] front due = absurd (cc)
+turn_front [] request f (w ∷ ws) front due = absurd (omega arith)
+turn_front (l ∷ []) request f (w ∷ ws) front due = absurd (omega arith)
+turn_front (l ∷ m ∷ given) request f (w ∷ ws) front due =
     let second : letter.Values 0 (f w ∷ map f ws) ≡ m = cc in
     ap letter_values (sym second)
 
@@ -45,29 +44,29 @@ receive_own run r (w ∷ ws) =
     let fails : is_received run.place (answer run r) r r w ≡ false = and_right _ _ (and_right (owner_of run.place w == r) (not (r == r)) (rw (eq-eqb r r refl) refl)) in
     rw fails (receive_own run r ws)
 
-nothing_own : (given : List Letter) → take (length given) [] ≡ given → nest_values given ≡ []
+nothing_own : (given : List Letter) → take (length given) [] ≡ given → turn_values given ≡ []
 nothing_own [] front = refl
 nothing_own (l ∷ given) front = absurd (cc)
 
 -- the values that a rank which has passed its last wait was sent
 pub received_values : (run : Run) (n : Node) (q : ℕ) → IsNode run n → n.stage ≡ Outer → q < run.ranks →
-    nest_values (letters_from n.given q) ≡ map (read run.first run.source) (receive run n.rank q)
+    turn_values (letters_from n.given q) ≡ map (read run.first run.source) (receive run n.rank q)
 received_values run n q is at below =
     let r = n.rank in
     let passed : passed_of n.stage ≡ 2 = ap passed_of at in
     elim (cases_eq q r) [
       | inl own ↦
-          let P : ℕ → Type 0 = λ k. k < run.ranks → nest_values (letters_from n.given k) ≡ map (read run.first run.source) (receive run r k) in
+          let P : ℕ → Type 0 = λ k. k < run.ranks → turn_values (letters_from n.given k) ≡ map (read run.first run.source) (receive run r k) in
           let here : P r = λ there.
           rw (receive_own run r (range_with_len 0 (length run.place)))
-          (nothing_own (letters_from n.given r) (ap (take (length (letters_from n.given r))) (sym (book-own run.ranks r (rounds run))) ∙ is.fronts r there)) in
+          (nothing_own (letters_from n.given r) (ap (take (length (letters_from n.given r))) (sym (book-own run.ranks r (rounds (schedule run)))) ∙ is.fronts r there)) in
           subst P (sym own) here below
       | inr other ↦
           let all : has_all (scripts run) r (letters_from n.given) 1 ≡ true = is.fit.past 1 (omega arith) in
           let enough : named (scripts run) r 1 q ≤ length (letters_from n.given q) = leb-true _ _ (all_below_at run.ranks _ all q below) in
           let due = named_values run r q is.of_run.rank other in
-          nest_front (letters_from n.given q) (request run q r) (read run.first run.source) (receive run r q)
-          (ap (take (length (letters_from n.given q))) (sym (book-nests run.ranks 1 (request run) (values_letter run) q r is.of_run.rank other)) ∙ is.fronts q below)
+          turn_front (letters_from n.given q) (request (schedule run) q r) (read run.first run.source) (receive run r q)
+          (ap (take (length (letters_from n.given q))) (sym (book-turns run.ranks 1 (request (schedule run)) (values_letter (schedule run)) q r is.of_run.rank other)) ∙ is.fronts q below)
           (omega arith)
     ]
 

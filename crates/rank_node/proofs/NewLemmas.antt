@@ -15,20 +15,20 @@ use Rattle.rank_scripts.specs.Nodes as scripted
 use Rattle.rank_scripts.specs.Rounds.{posts_between, acts_of_all}
 use Rattle.rank_scripts.proofs.NodeLemmas.{fresh_fit}
 use Rattle.rank_scripts.proofs.BookLemmas.{sent-fresh}
-use Rattle.rank_model.specs.Runs.{Run, IsRun, answer_part}
-use Rattle.rank_model.specs.Letters.{rounds, scripts}
+use Rattle.rank_model.specs.Products.{IsRun, Run, answer_part, scripts, schedule}
+use Rattle.rank_model.specs.Schedules.{rounds}
 use Rattle.rank_node.specs.declared.node.Node.{Node}
 use Rattle.rank_node.specs.declared.stage.Stage.TheVariants.{Inspect}
 use Rattle.rank_node.specs.declared.stage.Tally.{Tally}
-use Rattle.rank_node.specs.Jobs.{IsJobOf, ArePartsOf}
-use Rattle.rank_node.specs.Made.{AreHeld, IsDealing}
+use Rattle.rank_node.specs.Holdings.{AreHeld}
+use Rattle.rank_node.specs.Jobs.{ArePartsOf, IsDealing, IsJobOf}
 use Rattle.rank_node.specs.Positions.{due_request, due_values, from_requests, from_inner}
 use Rattle.rank_node.specs.Waits.{letters_from}
 use Rattle.rank_node.specs.NodeStates.{IsTallied, IsNode}
 use Rattle.rank_node.proofs.NodeLemmas.{node_at, settled_same}
 
 -- the script, by its posts
-script_is : (run : Run) (r : ℕ) → acts_of_all run.ranks r (rounds run) ≡ from_requests run r 0
+script_is : (run : Run) (r : ℕ) → acts_of_all run.ranks r (rounds (schedule run)) ≡ from_requests run r 0
 script_is run r =
     let whole : run.ranks - 0 ≡ run.ranks = omega arith in
     let posts = posts_between (due_request run r) 0 run.ranks in

@@ -1,7 +1,9 @@
 -- What a node keeps as it posts, takes and works.
 use Rattle.std.proofs.Common.{◌≡◌, ℕ, ◌+◌, ◌<◌, ◌≤◌, true, List, [], ◌∷◌, ◌++◌, Some, length, get_or, set, slice_get, map, sym, ap, ◌∙◌, subst, inl, inr, arith}
+use Rattle.std.proofs.lemmas.Option.{get_or_from_slice_get}
 use Rattle.std.proofs.lemmas.List.{length-set, length_push, get_or-set_same, get_or-set_other}
 use Rattle.std.proofs.lemmas.Bool.{cases_eq}
+use Rattle.bern_base.specs.declared.limits.TheConstants.{MOST_SIDE}
 use Rattle.bern_base.specs.declared.letter.Letter.{Letter}
 use Rattle.rank_scripts.specs.Acts.{at_post}
 use Rattle.rank_scripts.specs.Ranks.{put}
@@ -10,11 +12,9 @@ use Rattle.rank_scripts.specs.Nodes.{has_all, worked, posted, took, sent, NodeFi
 use Rattle.rank_scripts.specs.Nodes as scripted
 use Rattle.rank_scripts.proofs.NodeLemmas.{posted_fit, took_fit, has_all-more}
 use Rattle.rank_scripts.proofs.BookLemmas.{IsFrontOf-next}
-use Rattle.dense_model.specs.State.{read}
+use Rattle.job_model.specs.State.{read}
 use Rattle.placement.specs.Placement.{owned_indices}
-use Rattle.rank_model.specs.Runs.{Run, part_values}
-use Rattle.rank_model.specs.Sets.{send}
-use Rattle.rank_model.specs.Letters.{scripts}
+use Rattle.rank_model.specs.Products.{Run, part_values, scripts, send}
 use Rattle.rank_node.specs.declared.stage.Stage.{Stage}
 use Rattle.rank_node.specs.declared.stage.Tally.{Tally}
 use Rattle.rank_node.specs.declared.node.Node.{Node}
@@ -24,7 +24,6 @@ use Rattle.rank_node.specs.Positions.{todo_of, passed_of, state_of, HasItsLetter
 use Rattle.rank_node.specs.Waits.{letters_from, HaveFronts}
 use Rattle.rank_node.specs.NodeStates.{node_of, given_of, values_held, IsOfRun, IsTallied, IsNode}
 use Rattle.rank_node.proofs.NodeLemmas.{node_at, posted_same, took_same, posted_tallied, post_small, letters_from-set}
-use Rattle.rank_node.proofs.ListLemmas.{get_or-read_at}
 use Rattle.rank_node.proofs.PositionLemmas.{asked_is}
 
 -- a node with other letters, counts and another stage
@@ -133,10 +132,10 @@ took_kept run n from new letter stop is below next new_is goes =
 
 -- the counts of a post fit
 pub post_counts : (run : Run) (n : Node) (to values : ℕ) (next : Stage) (tally : Tally) → IsNode run n → to < run.ranks → Posts run n.rank to n.stage next values →
-    slice_get n.sent to ≡ Some tally → (tally.letters + 1 ≤ 2) × (tally.values + values ≤ 4194304)
+    slice_get n.sent to ≡ Some tally → (tally.letters + 1 ≤ 2) × (tally.values + values ≤ MOST_SIDE)
 post_counts run n to values next tally is below p at =
     let P : Tally → Type 0 = λ t. IsTallied (sent (scripts run) n.rank (node_of run n) to) t in
-    let tallied : IsTallied (sent (scripts run) n.rank (node_of run n) to) tally = subst P (get_or-read_at n.sent to tally tally at) (is.tallied to tally below) in
+    let tallied : IsTallied (sent (scripts run) n.rank (node_of run n) to) tally = subst P (get_or_from_slice_get n.sent to tally tally at) (is.tallied to tally below) in
     let small = post_small run n.rank to (node_of run n) p.letter (todo_of run n.rank next) is.fit p.todo is.of_run.run_is below tally tallied in
     let size = p.size in
     (small.0, let sum = small.1 in omega arith)
@@ -153,7 +152,7 @@ asked_at run n to is at =
 pub asked_slice : (run : Run) (n : Node) (to : ℕ) (letters : List Letter) (slice : List ℕ) → IsNode run n → n.stage ≡ Values to → slice_get n.given to ≡ Some letters → slice ≡ asked_in letters →
     slice ≡ send run n.rank to
 asked_slice run n to letters slice is at read reads =
-    reads ∙ ap asked_in (sym (get_or-read_at n.given to letters [] read)) ∙ asked_at run n to is at
+    reads ∙ ap asked_in (sym (get_or_from_slice_get n.given to letters [] read)) ∙ asked_at run n to is at
 
 pub source_inside : (run : Run) (n : Node) → IsNode run n → n.source < length n.values
 source_inside run n is =
@@ -166,7 +165,7 @@ source_inside run n is =
 pub own_source : (run : Run) (n : Node) (list slice : List ℕ) → IsNode run n → state_of run n.stage ≡ run.first → slice_get n.values n.source ≡ Some list → slice ≡ list →
     slice ≡ map (read run.first run.source) (owned_indices run.place n.rank)
 own_source run n list slice is state read_is reads =
-    reads ∙ sym (get_or-read_at n.values n.source list [] read_is) ∙ ap (λ a. get_or n.values a []) is.of_run.source ∙ is.part run.source is.of_run.run_is.source_dense ∙
+    reads ∙ sym (get_or_from_slice_get n.values n.source list [] read_is) ∙ ap (λ a. get_or n.values a []) is.of_run.source ∙ is.part run.source is.of_run.run_is.source_dense ∙
     ap (λ st. part_values run st run.source n.rank) state ∙ ap (map (read run.first run.source)) (is.of_run.run_is.source_held n.rank)
 
 pub own_slice : (run : Run) (n : Node) (to : ℕ) (list slice : List ℕ) → IsNode run n → n.stage ≡ Values to → slice_get n.values n.source ≡ Some list → slice ≡ list →

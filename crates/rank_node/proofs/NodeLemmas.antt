@@ -1,31 +1,31 @@
 -- A node that works, posts or takes is the rank that its scripts say.
 use Rattle.std.proofs.Common.{slice_get, ◌≡◌, ℕ, ◌+◌, ◌<◌, ◌≤◌, true, ◌==◌, List, [], ◌∷◌, ◌++◌, Option, Some, None, length, length-append, map, take, drop, get_or, set, sum_by, refl, sym, ap, ◌∙◌, subst, inl, inr, arith}
+use Rattle.std.proofs.lemmas.Option.{get_or_from_slice_get}
 use Rattle.std.specs.List.{range_with_len, cons_option}
 use Rattle.std.proofs.Math.Path.{fun_ext}
 use Rattle.std.proofs.lemmas.Bool.{cases_eq, eq-eqb, ne_eqb, cond-true, cond-false}
 use Rattle.std.proofs.lemmas.List.{get_or-set_same, get_or-set_other, length-map, length_push}
 use Rattle.std.proofs.lemmas.List.Sums.{sum_by-append, sum_by-cons, sum_by_push, length-filter, count_by-le-length}
 use Rattle.std.proofs.lemmas.List.FromFn.{length-range_with_len}
+use Rattle.bern_base.specs.declared.limits.TheConstants.{MOST_SIDE}
 use Rattle.bern_base.specs.declared.letter.Letter.{Letter}
-use Rattle.dense_model.specs.State.{read}
+use Rattle.job_model.specs.State.{read}
 use Rattle.rank_scripts.specs.Acts.{Act, Work, Post, posts_to, at_work, at_post, receiver}
 use Rattle.rank_scripts.specs.Ranks.{put}
 use Rattle.rank_scripts.specs.Scripts.{book}
-use Rattle.rank_scripts.specs.Nodes.{has_all, behind, settle, fresh, worked, posted, took, sent, NodeFit}
+use Rattle.rank_scripts.specs.Nodes.{has_all, past_waits, settle, fresh, worked, posted, took, sent, NodeFit}
 use Rattle.rank_scripts.specs.Nodes as scripted
 use Rattle.rank_scripts.proofs.RankLemmas.{put_same}
 use Rattle.rank_scripts.proofs.NodeLemmas.{worked_fit, posted_fit, took_fit, rest-at_post}
 use Rattle.rank_scripts.proofs.BookLemmas.{sent-posted, sent-posted_other, sent-split, next-at_post}
-use Rattle.rank_scripts.proofs.RoundLemmas.{book-nests, book-own}
-use Rattle.rank_model.specs.Runs.{Run, IsRun, answer}
-use Rattle.rank_model.specs.Sets.{send, is_received}
-use Rattle.rank_model.specs.Letters.{request, values_letter, values_of, values_in, rounds, scripts}
+use Rattle.rank_scripts.proofs.RoundLemmas.{book-turns, book-own}
+use Rattle.rank_model.specs.Products.{IsRun, Run, answer, is_received, scripts, send, schedule}
+use Rattle.rank_model.specs.Schedules.{request, rounds, some_values, values_in, values_letter}
 use Rattle.rank_node.specs.declared.stage.Stage.{Stage}
 use Rattle.rank_node.specs.declared.stage.Tally.{Tally}
 use Rattle.rank_node.specs.Positions.{todo_of, passed_of, position_of, GoesTo}
 use Rattle.rank_node.specs.Waits.{letters_from}
 use Rattle.rank_node.specs.NodeStates.{IsTallied, IsFirstOfRest, IsNextToPost}
-use Rattle.rank_node.proofs.ListLemmas.{get_or-read_at}
 
 -- a rank at a stage
 abbrev pub node_at : Run → ℕ → Stage → (ℕ → List Letter) → scripted.Node Letter
@@ -45,10 +45,10 @@ node_same p p' t t' g g' s s' e f h k = cc
 -- what stops where the settled rank stops is that rank
 pub settled_same : (run : Run) (r m : ℕ) (acts : List (Act Letter)) (given rest : ℕ → List Letter) (stage : Stage) →
     NodeFit (scripts run) r (settle (scripts run) r m acts given rest) →
-    behind (has_all (scripts run) r given) m acts ≡ position_of run r stage →
+    past_waits (has_all (scripts run) r given) m acts ≡ position_of run r stage →
     node_at run r stage given ≡ settle (scripts run) r m acts given rest
 settled_same run r m acts given rest stage fit at =
-    let todo : todo_of run r stage ≡ (behind (has_all (scripts run) r given) m acts).todo = sym (ap (λ (p : scripted.Position Letter). p.todo) at) in
+    let todo : todo_of run r stage ≡ (past_waits (has_all (scripts run) r given) m acts).todo = sym (ap (λ (p : scripted.Position Letter). p.todo) at) in
     node_same _ _ _ _ _ _ _ _ (sym (ap (λ (p : scripted.Position Letter). p.passed) at)) todo refl
     (fun_ext (λ q. ap (posts_to q) todo ∙ sym (fit.rests q)))
 
@@ -59,7 +59,7 @@ pub worked_same : (run : Run) (r : ℕ) (stage next stop : Stage) (given : ℕ �
 worked_same run r stage next stop given fit todo passed goes =
     let at : at_work (todo_of run r stage) ≡ true = ap at_work todo in
     settled_same run r (passed_of stage) (drop 1 (todo_of run r stage)) given _ stop (worked_fit (scripts run) r (node_at run r stage given) at fit)
-    (ap (λ acts. behind (has_all (scripts run) r given) (passed_of stage) (drop 1 acts)) todo ∙ ap (λ m. behind (has_all (scripts run) r given) m (todo_of run r next)) (sym passed) ∙ goes.position)
+    (ap (λ acts. past_waits (has_all (scripts run) r given) (passed_of stage) (drop 1 acts)) todo ∙ ap (λ m. past_waits (has_all (scripts run) r given) m (todo_of run r next)) (sym passed) ∙ goes.position)
 
 -- a rank that posts
 pub posted_same : (run : Run) (r : ℕ) (stage next stop : Stage) (given : ℕ → List Letter) (to : ℕ) (letter : Letter) →
@@ -68,7 +68,7 @@ pub posted_same : (run : Run) (r : ℕ) (stage next stop : Stage) (given : ℕ �
 posted_same run r stage next stop given to letter fit todo passed goes =
     let at : at_post (todo_of run r stage) ≡ true = ap at_post todo in
     settled_same run r (passed_of stage) (drop 1 (todo_of run r stage)) given _ stop (posted_fit (scripts run) r (node_at run r stage given) at fit)
-    (ap (λ acts. behind (has_all (scripts run) r given) (passed_of stage) (drop 1 acts)) todo ∙ ap (λ m. behind (has_all (scripts run) r given) m (todo_of run r next)) (sym passed) ∙ goes.position)
+    (ap (λ acts. past_waits (has_all (scripts run) r given) (passed_of stage) (drop 1 acts)) todo ∙ ap (λ m. past_waits (has_all (scripts run) r given) m (todo_of run r next)) (sym passed) ∙ goes.position)
 
 -- a rank that takes
 pub took_same : (run : Run) (r : ℕ) (stage stop : Stage) (given : ℕ → List Letter) (from : ℕ) (letters : List Letter) →
@@ -87,7 +87,7 @@ letters_from-set given from letters within =
     ])
 
 -- books are small
-sum_values : (f : ℕ → ℕ) (ws : List ℕ) → sum_by values_in (cons_option (values_of 0 (map f ws)) []) ≤ length ws
+sum_values : (f : ℕ → ℕ) (ws : List ℕ) → sum_by values_in (cons_option (some_values 0 (map f ws)) []) ≤ length ws
 sum_values f [] = omega arith
 sum_values f (w ∷ ws) = let long = length-map ws f in omega arith
 
@@ -95,12 +95,12 @@ few_letters : (o : Option Letter) → length (cons_option o []) ≤ 1
 few_letters None = omega arith
 few_letters (Some letter) = omega arith
 
-pub book_small : (run : Run) (r q : ℕ) → IsRun run → q < run.ranks → (length (book (scripts run) r q) ≤ 2) × (sum_by values_in (book (scripts run) r q) ≤ 4194304)
+pub book_small : (run : Run) (r q : ℕ) → IsRun run → q < run.ranks → (length (book (scripts run) r q) ≤ 2) × (sum_by values_in (book (scripts run) r q) ≤ MOST_SIDE)
 book_small run r q is below =
     elim (cases_eq r q) [
       | inl same ↦
-          let P : ℕ → Type 0 = λ k. (length (book (scripts run) r k) ≤ 2) × (sum_by values_in (book (scripts run) r k) ≤ 4194304) in
-          subst P same (rw (book-own run.ranks r (rounds run)) (omega arith, omega arith))
+          let P : ℕ → Type 0 = λ k. (length (book (scripts run) r k) ≤ 2) × (sum_by values_in (book (scripts run) r k) ≤ MOST_SIDE) in
+          subst P same (rw (book-own run.ranks r (rounds (schedule run))) (omega arith, omega arith))
       | inr other ↦
           let long : length (send run r q) ≤ length run.place =
           let counted = length-filter (is_received run.place (answer run q) q r) (range_with_len 0 (length run.place)) in
@@ -109,8 +109,8 @@ book_small run r q is below =
           omega arith in
           let extent = is.extent in
           let sum = sum_values (read run.first run.source) (send run r q) in
-          let few = few_letters (values_letter run 0 r q) in
-          rw (book-nests run.ranks 1 (request run) (values_letter run) r q below other) (omega arith, omega arith)
+          let few = few_letters (values_letter (schedule run) 0 r q) in
+          rw (book-turns run.ranks 1 (request (schedule run)) (values_letter (schedule run)) r q below other) (omega arith, omega arith)
     ]
 
 -- the letter that a rank posts is the first of its rest
@@ -124,7 +124,7 @@ rest_first run r to node letter acts fit todo =
 
 -- the counts of what was posted are small
 pub sent_small : (run : Run) (r q : ℕ) (node : scripted.Node Letter) → NodeFit (scripts run) r node → IsRun run → q < run.ranks → (tally : Tally) →
-    IsTallied (sent (scripts run) r node q) tally → (tally.letters + length (node.rest q) ≤ 2) × (tally.values + sum_by values_in (node.rest q) ≤ 4194304)
+    IsTallied (sent (scripts run) r node q) tally → (tally.letters + length (node.rest q) ≤ 2) × (tally.values + sum_by values_in (node.rest q) ≤ MOST_SIDE)
 sent_small run r q node fit is below tally tallied =
     let small = book_small run r q is below in
     let whole = sent-split (scripts run) r node fit q in
@@ -136,7 +136,7 @@ sent_small run r q node fit is below tally tallied =
 
 -- a letter that is to be posted now fits into the counts
 pub post_small : (run : Run) (r to : ℕ) (node : scripted.Node Letter) (letter : Letter) (acts : List (Act Letter)) → NodeFit (scripts run) r node → node.todo ≡ Post to letter ∷ acts → IsRun run → to < run.ranks →
-    (tally : Tally) → IsTallied (sent (scripts run) r node to) tally → (tally.letters + 1 ≤ 2) × (tally.values + values_in letter ≤ 4194304)
+    (tally : Tally) → IsTallied (sent (scripts run) r node to) tally → (tally.letters + 1 ≤ 2) × (tally.values + values_in letter ≤ MOST_SIDE)
 post_small run r to node letter acts fit todo is below tally tallied =
     let small = sent_small run r to node fit is below tally tallied in
     let rest = rest-at_post (scripts run) r node to letter acts todo fit in
@@ -155,7 +155,7 @@ posted_tallied run r to node letter acts fit todo tallies new tally values long 
     let receives : receiver node.todo ≡ to = ap receiver todo in
     elim (cases_eq q to) [
       | inl here ↦
-          let read : get_or tallies to tally ≡ tally = get_or-read_at tallies to tally tally at in
+          let read : get_or tallies to tally ≡ tally = get_or_from_slice_get tallies to tally tally at in
           let before : IsTallied (sent (scripts run) r node to) tally = subst (λ t. IsTallied (sent (scripts run) r node to) t) read (tallied to tally below) in
           let more : sent (scripts run) r (posted (scripts run) r node) to ≡ sent (scripts run) r node to ++ letter ∷ [] =
           (let P : ℕ → Type 0 = λ k. sent (scripts run) r (posted (scripts run) r node) k ≡ sent (scripts run) r node k ++ letter ∷ [] in

@@ -7,15 +7,14 @@ use Rattle.bern_base.specs.declared.letter.Letter.{Letter}
 use Rattle.bern_base.specs.declared.letter.Letter.TheVariants as letter
 use Rattle.rank_scripts.specs.Acts.{Act, Work, Post, Wait, at_wait}
 use Rattle.rank_scripts.specs.Scripts.{book, named, IsFrontOf}
-use Rattle.rank_scripts.specs.Nodes.{Position, has_all, behind}
+use Rattle.rank_scripts.specs.Nodes.{Position, has_all, past_waits}
 use Rattle.rank_scripts.specs.Rounds.{post_due, posts_between, letters_of}
 use Rattle.rank_scripts.proofs.RankLemmas.{all_below_at, all_below_from}
-use Rattle.rank_scripts.proofs.RoundLemmas.{letters_of-own, book-nests}
+use Rattle.rank_scripts.proofs.RoundLemmas.{letters_of-own, book-turns}
 use Rattle.rank_scripts.proofs.WaitLemmas.{posts_to-until}
-use Rattle.dense_model.specs.State.{read}
-use Rattle.rank_model.specs.Runs.{Run}
-use Rattle.rank_model.specs.Sets.{send, receive}
-use Rattle.rank_model.specs.Letters.{request, values_letter, values_of, values_in, need_sets, rounds, scripts}
+use Rattle.job_model.specs.State.{read}
+use Rattle.rank_model.specs.Products.{Run, receive, scripts, send, schedule}
+use Rattle.rank_model.specs.Schedules.{need_sets, request, rounds, some_values, values_in, values_letter}
 use Rattle.rank_node.specs.declared.stage.Stage.{Stage}
 use Rattle.rank_node.specs.declared.stage.Stage.TheVariants.{Request, AwaitRequests, Values, Inner, AwaitValues, Outer}
 use Rattle.rank_node.specs.Letters.{asked_elements, asked_in}
@@ -34,7 +33,7 @@ posts_end due a ranks past =
     rw none refl
 
 -- a Request to another rank
-pub request_first : (run : Run) (r to : ℕ) → to < run.ranks → (to ≡ r → ⊥) → from_requests run r to ≡ Post to (request run r to) ∷ from_requests run r (to + 1)
+pub request_first : (run : Run) (r to : ℕ) → to < run.ranks → (to ≡ r → ⊥) → from_requests run r to ≡ Post to (request (schedule run) r to) ∷ from_requests run r (to + 1)
 request_first run r to below other =
     rw (posts_split (due_request run r) to run.ranks below, ne_eqb r to (λ e. other (sym e))) refl
 
@@ -46,7 +45,7 @@ pub request_end : (run : Run) (r to : ℕ) → run.ranks ≤ to → from_request
 request_end run r to past = rw (posts_end (due_request run r) to run.ranks past) refl
 
 -- values to a rank to which some are due
-pub values_some : (nest : ℕ) (xs : List ℕ) → (xs ≡ [] → ⊥) → (letter : Letter) × (values_of nest xs ≡ Some letter)
+pub values_some : (nest : ℕ) (xs : List ℕ) → (xs ≡ [] → ⊥) → (letter : Letter) × (some_values nest xs ≡ Some letter)
 values_some nest [] some = absurd (some refl)
 values_some nest (x ∷ xs) some = (_, refl)
 
@@ -55,7 +54,7 @@ map_some f [] some none = some refl
 map_some f (x ∷ xs) some none = absurd (cc)
 
 pub values_first : (run : Run) (r to : ℕ) → to < run.ranks → (to ≡ r → ⊥) → (send run r to ≡ [] → ⊥) →
-    (letter : Letter) × (values_letter run 0 r to ≡ Some letter) × (from_values run r to ≡ Post to letter ∷ from_values run r (to + 1))
+    (letter : Letter) × (values_letter (schedule run) 0 r to ≡ Some letter) × (from_values run r to ≡ Post to letter ∷ from_values run r (to + 1))
 values_first run r to below other some =
     let due = values_some 0 (map (read run.first run.source) (send run r to)) (map_some (read run.first run.source) (send run r to) some) in
     let here : due_values run r to ≡ Some due.0 = rw (ne_eqb r to (λ e. other (sym e))) due.1 in
@@ -78,21 +77,21 @@ pub values_end : (run : Run) (r to : ℕ) → run.ranks ≤ to → from_values r
 values_end run r to past = rw (posts_end (due_values run r) to run.ranks past) refl
 
 -- how many letters of rank q the waits of rank r name
-named_is : (run : Run) (r m q : ℕ) → r < run.ranks → named (scripts run) r m q ≡ length (letters_of q r (take (suc m) (rounds run)))
-named_is run r m q there = ap length (posts_to-until run.ranks q r m (rounds run) there)
+named_is : (run : Run) (r m q : ℕ) → r < run.ranks → named (scripts run) r m q ≡ length (letters_of q r (take (suc m) (rounds (schedule run))))
+named_is run r m q there = ap length (posts_to-until run.ranks q r m (rounds (schedule run)) there)
 
 pub named_own : (run : Run) (r m : ℕ) → r < run.ranks → named (scripts run) r m r ≡ 0
-named_own run r m there = named_is run r m r there ∙ ap length (letters_of-own r (take (suc m) (rounds run)))
+named_own run r m there = named_is run r m r there ∙ ap length (letters_of-own r (take (suc m) (rounds (schedule run))))
 
 pub named_request : (run : Run) (r q : ℕ) → r < run.ranks → (q ≡ r → ⊥) → named (scripts run) r 0 q ≡ 1
 named_request run r q there other = named_is run r 0 q there ∙ rw (ne_eqb q r other) refl
 
-due_length : (letter : Letter) (f : ℕ → ℕ) (xs : List ℕ) → length (cons_option (Some letter) (cons_option (values_of 0 (map f xs)) [])) ≡ due_for xs
+due_length : (letter : Letter) (f : ℕ → ℕ) (xs : List ℕ) → length (cons_option (Some letter) (cons_option (some_values 0 (map f xs)) [])) ≡ due_for xs
 due_length letter f [] = refl
 due_length letter f (x ∷ xs) = refl
 
 pub named_values : (run : Run) (r q : ℕ) → r < run.ranks → (q ≡ r → ⊥) → named (scripts run) r 1 q ≡ due_for (receive run r q)
-named_values run r q there other = named_is run r 1 q there ∙ rw (ne_eqb q r other) (due_length (request run q r) (read run.first run.source) (receive run r q))
+named_values run r q there other = named_is run r 1 q there ∙ rw (ne_eqb q r other) (due_length (request (schedule run) q r) (read run.first run.source) (receive run r q))
 
 -- tests at a wait
 pub enough : (m n k : ℕ) → m ≡ n → n ≤ k → nat_le m k ≡ true
@@ -112,8 +111,8 @@ pub asked_front : (run : Run) (r q : ℕ) (given : List Letter) → r < run.rank
     asked_in given ≡ send run r q
 asked_front run r q [] there other some front = absurd (omega arith)
 asked_front run r q (letter ∷ given) there other some front =
-    let book_is = book-nests run.ranks 1 (request run) (values_letter run) q r there other in
-    let first : letter ∷ given ≡ request run q r ∷ take (length given) (filter_map (λ nest. values_letter run nest q r) (range_with_len 0 1)) = sym front ∙ ap (λ xs. take (suc (length given)) xs) book_is in
+    let book_is = book-turns run.ranks 1 (request (schedule run)) (values_letter (schedule run)) q r there other in
+    let first : letter ∷ given ≡ request (schedule run) q r ∷ take (length given) (filter_map (λ nest. values_letter (schedule run) nest q r) (range_with_len 0 1)) = sym front ∙ ap (λ xs. take (suc (length given)) xs) book_is in
     ap asked_in first ∙ asked_request r run.source (receive run q r)
   where
     asked_request : (owner array : ℕ) (ws : List ℕ) → asked_elements (need_sets 0 owner array ws) ≡ ws
@@ -128,7 +127,7 @@ asked_is run r q given there below other all front =
     asked_front run r q (given q) there other (omega arith) front
 
 -- a rank stands at a work, at a post, and at a wait that it can not pass
-pub stays : (passes : ℕ → Bool) (m : ℕ) (acts : List (Act Letter)) → (at_wait acts ≡ true → passes m ≡ false) → behind passes m acts ≡ record { passed = m; todo = acts }
+pub stays : (passes : ℕ → Bool) (m : ℕ) (acts : List (Act Letter)) → (at_wait acts ≡ true → passes m ≡ false) → past_waits passes m acts ≡ record { passed = m; todo = acts }
 stays passes m [] waits = refl
 stays passes m (Work ∷ acts) waits = refl
 stays passes m (Post to letter ∷ acts) waits = refl
@@ -141,7 +140,7 @@ goes_request run r from to given below other same =
     let passes = has_all (scripts run) r given in
     let first = request_first run r to below other in
     record {
-      position = ap (behind passes 0) (same ∙ first) ∙ ap (λ acts. position 0 acts) (sym first);
+      position = ap (past_waits passes 0) (same ∙ first) ∙ ap (λ acts. position 0 acts) (sym first);
       letter = (below, other);
       inspected = refl;
       summed = refl;
@@ -154,7 +153,7 @@ goes_request run r from to given below other same =
 pub goes_through : (run : Run) (r from : ℕ) (given : ℕ → List Letter) (to : Stage) → from_requests run r from ≡ Wait ∷ from_values run r 0 →
     GoesTo run r given AwaitRequests to → GoesTo run r given (Request from) to
 goes_through run r from given to same goes =
-    record { position = ap (behind (has_all (scripts run) r given) 0) same ∙ goes.position; letter = goes.letter; inspected = goes.inspected; summed = goes.summed; state = goes.state }
+    record { position = ap (past_waits (has_all (scripts run) r given) 0) same ∙ goes.position; letter = goes.letter; inspected = goes.inspected; summed = goes.summed; state = goes.state }
 
 pub goes_on_requests : (run : Run) (r : ℕ) (given : ℕ → List Letter) (to : Stage) → has_all (scripts run) r given 0 ≡ true →
     GoesTo run r given (Values 0) to → GoesTo run r given AwaitRequests to
@@ -175,7 +174,7 @@ goes_values run r from to given below other some same =
     let passes = has_all (scripts run) r given in
     let first = (values_first run r to below other some).2 in
     record {
-      position = ap (behind passes 1) (same ∙ first) ∙ ap (λ (acts : List (Act Letter)). position 1 acts) (sym first);
+      position = ap (past_waits passes 1) (same ∙ first) ∙ ap (λ (acts : List (Act Letter)). position 1 acts) (sym first);
       letter = (below, other, some);
       inspected = refl;
       summed = refl;
@@ -186,18 +185,18 @@ goes_values run r from to given below other some same =
     position m acts = record { passed = m; todo = acts }
 
 pub goes_inner : (run : Run) (r from : ℕ) (given : ℕ → List Letter) → from_values run r from ≡ from_inner → GoesTo run r given (Values from) Inner
-goes_inner run r from given same = record { position = ap (behind (has_all (scripts run) r given) 1) same; letter = tt; inspected = refl; summed = refl; state = refl }
+goes_inner run r from given same = record { position = ap (past_waits (has_all (scripts run) r given) 1) same; letter = tt; inspected = refl; summed = refl; state = refl }
 
 -- a rank that posts
 pub post_request : (run : Run) (r to : ℕ) (stage : Stage) → stage ≡ Request to → HasItsLetter run r stage →
-    todo_of run r stage ≡ Post to (request run r to) ∷ todo_of run r (Request (to + 1))
+    todo_of run r stage ≡ Post to (request (schedule run) r to) ∷ todo_of run r (Request (to + 1))
 post_request run r to stage is has =
-    let P : Stage → Type 0 = λ s. HasItsLetter run r s → todo_of run r s ≡ Post to (request run r to) ∷ from_requests run r (to + 1) in
+    let P : Stage → Type 0 = λ s. HasItsLetter run r s → todo_of run r s ≡ Post to (request (schedule run) r to) ∷ from_requests run r (to + 1) in
     subst P (sym is) (λ h. request_first run r to h.0 h.1) has
 
 pub record PostsValues (run : Run) (r to : ℕ) (stage : Stage) : Type 0 where
   pub letter : Letter
-  pub is : values_letter run 0 r to ≡ Some letter
+  pub is : values_letter (schedule run) 0 r to ≡ Some letter
   pub todo : todo_of run r stage ≡ Post to letter ∷ todo_of run r (Values (to + 1))
 
 pub post_values : (run : Run) (r to : ℕ) (stage : Stage) → stage ≡ Values to → HasItsLetter run r stage → PostsValues run r to stage
@@ -210,7 +209,7 @@ posts_request run r to stage is has =
     let P : Stage → Type 0 = λ s. HasItsLetter run r s → Posts run r to s (Request (to + 1)) 0 in
     subst P (sym is)
     (λ h. record {
-      letter = request run r to;
+      letter = request (schedule run) r to;
       todo = request_first run r to h.0 h.1;
       size = refl;
       passed = refl;
@@ -220,7 +219,7 @@ posts_request run r to stage is has =
     })
     has
 
-values_size : (f : ℕ → ℕ) (ws : List ℕ) (l : Letter) → values_of 0 (map f ws) ≡ Some l → values_in l ≡ length ws
+values_size : (f : ℕ → ℕ) (ws : List ℕ) (l : Letter) → some_values 0 (map f ws) ≡ Some l → values_in l ≡ length ws
 values_size f [] l is = absurd (cc)
 values_size f (w ∷ ws) l is =
     let same : letter.Values 0 (f w ∷ map f ws) ≡ l = cc in

@@ -7,7 +7,7 @@ use Rattle.std.proofs.lemmas.List.{length-set, get_or-set_same, get_or-set_other
 use Rattle.std.proofs.lemmas.List.FromFn.{filter_of_map_range_with_len_more, length-map-range_with_len, get_or-map-range_with_len}
 use Rattle.bern_base.specs.declared.matrix.Entry.{Entry}
 use Rattle.placement.specs.Placement.{Triple, owner_of}
-use Rattle.rank_model.specs.Sets.{reads, is_received}
+use Rattle.rank_model.specs.Products.{is_received, reads}
 use Rattle.rank_node.specs.Sets.{asked_of, all_asked, ArePut}
 
 -- one more value is put

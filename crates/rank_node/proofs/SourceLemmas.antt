@@ -10,9 +10,8 @@ use Rattle.bern_base.specs.declared.letter.Letter.TheVariants as letter
 use Rattle.placement.specs.Placement.{Triple, IsPlacement, owner_of, local_of, owned_indices, owned_of, global_of}
 use Rattle.placement.specs.PlacementLaws.{local-below, global-owner-local}
 use Rattle.placement.proofs.IndexLemmas.{length-owned_indices, get_or-owned_indices}
-use Rattle.rank_model.specs.Runs.{Run, answer}
-use Rattle.rank_model.specs.Sets.{is_received, receive}
-use Rattle.rank_model.specs.Letters.{values_of}
+use Rattle.rank_model.specs.Products.{Run, answer, is_received, receive}
+use Rattle.rank_model.specs.Schedules.{some_values}
 use Rattle.rank_node.specs.Sets.{own_values}
 
 -- what is asked for lies within the extent
@@ -48,9 +47,9 @@ own_values_are ranks place r f own ws is own_is below owned =
     let there : k < length ws = rw (← length-map ws (λ w. get_or own (local_of place w) 0)) inside in
     get_or-map _ ws k 0 d there ∙ own_read ranks place r (get_or ws k 0) f own is own_is (below k 0 there) (owned k 0 there) ∙ sym (get_or-map f ws k 0 d there))
 
-pub values_of_some : (nest : ℕ) (xs : List ℕ) → (xs ≡ [] → ⊥) → values_of nest xs ≡ Some (letter.Values nest xs)
-values_of_some nest [] some = absurd (some refl)
-values_of_some nest (x ∷ xs) some = refl
+pub some_values_is : (nest : ℕ) (xs : List ℕ) → (xs ≡ [] → ⊥) → some_values nest xs ≡ Some (letter.Values nest xs)
+some_values_is nest [] some = absurd (some refl)
+some_values_is nest (x ∷ xs) some = refl
 
 pub map_nil : {A B : Type 0} (f : A → B) (xs : List A) → map f xs ≡ [] → xs ≡ []
 map_nil f [] none = refl

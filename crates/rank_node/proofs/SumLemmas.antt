@@ -8,7 +8,7 @@ use Rattle.std.proofs.lemmas.List.FromFn.{map-range_with_len_more, fill_by_all}
 use Rattle.bern_base.specs.declared.matrix.Entry.{Entry}
 use Rattle.bern_base.specs.Matrix.{number}
 use Rattle.bern_base.specs.Ring.{ring_add}
-use Rattle.dense_model.specs.State.{element, matrix_values}
+use Rattle.bern_base.specs.Matrix.{element, matrix_values}
 use Rattle.rank_node.proofs.ListLemmas.{length-zeros}
 use Rattle.std.proofs.Math.Nat.{zero-add, add-mod-mod, mod-add-mod, mod-mod}
 

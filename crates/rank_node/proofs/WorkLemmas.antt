@@ -1,5 +1,6 @@
 -- What a node keeps as it works, and what it knows of its entries.
 use Rattle.std.proofs.Common.{◌≡◌, ℕ, ◌<◌, true, false, cond, ◌==◌, ◌||◌, ◌&&◌, not, List, [], ◌∷◌, length, map, get_or, set, replicate, Some, slice_get, refl, sym, ap, ◌∙◌, subst, ◌⊎◌, inl, inr, arith}
+use Rattle.std.proofs.lemmas.Option.{get_or_from_slice_get}
 use Rattle.std.specs.List.{All, range_with_len}
 use Rattle.std.proofs.Math.Nat.{zero-add}
 use Rattle.std.proofs.lemmas.Bool.{eqb-true, cases_eq, false≢true, cond-true, cond-false}
@@ -19,11 +20,8 @@ use Rattle.rank_scripts.specs.Nodes.{worked, sent, NodeFit}
 use Rattle.rank_scripts.specs.Nodes as scripted
 use Rattle.rank_scripts.proofs.NodeLemmas.{worked_fit}
 use Rattle.bern_base.specs.declared.letter.Letter.{Letter}
-use Rattle.dense_model.specs.State.{read}
-use Rattle.rank_model.specs.Runs.{Run, IsRun, is_home, answer, answer_part, part_values}
-use Rattle.rank_model.specs.States.{end_value, end_state}
-use Rattle.rank_model.specs.Sets.{reads, is_received}
-use Rattle.rank_model.specs.Letters.{scripts}
+use Rattle.job_model.specs.State.{read}
+use Rattle.rank_model.specs.Products.{IsRun, Run, answer, answer_part, end_state, end_value, is_home, is_received, part_values, reads, scripts}
 use Rattle.rank_node.specs.declared.stage.Stage.{Stage}
 use Rattle.rank_node.specs.declared.stage.Stage.TheVariants.{Inspect, Request, AwaitRequests, Values, Inner, AwaitValues, Outer, Done}
 use Rattle.rank_node.specs.declared.stage.Tally.{Tally}
@@ -32,9 +30,9 @@ use Rattle.rank_node.specs.Positions.{todo_of, passed_of, state_of, is_inspected
 use Rattle.rank_node.specs.Waits.{letters_from, HaveAsks}
 use Rattle.rank_node.specs.Sets.{asked_of, all_asked}
 use Rattle.rank_node.specs.Sums.{HaveGrown, inner_term, outer_term}
-use Rattle.rank_node.specs.NodeStates.{node_of, given_of, values_held, IsOfRun, IsTallied, IsNode}
+use Rattle.rank_node.specs.NodeStates.{node_of, given_of, values_held, HasWorked, IsOfRun, IsTallied, IsNode}
 use Rattle.rank_node.proofs.NodeLemmas.{node_at, worked_same}
-use Rattle.rank_node.proofs.ListLemmas.{get_or-read_at, length-zeros}
+use Rattle.rank_node.proofs.ListLemmas.{length-zeros}
 use Rattle.rank_node.proofs.PositionLemmas.{post_request, post_values}
 
 -- a node with other values, sets, sums and another stage
@@ -85,6 +83,13 @@ worked_kept run n values asks sums next stop is leaves =
       letter = leaves.goes.letter;
       fit = subst (NodeFit (scripts run) n.rank) (sym same) (worked_fit (scripts run) n.rank (node_of run n) (ap at_work leaves.todo) is.fit);
     }
+
+pub work_moves : (run : Run) (n : Node) (values asks : List (List ℕ)) (sums : List ℕ) (next stop : Stage) → IsNode run n → Leaves run n values asks sums next stop → HasWorked run n (after_work n values asks sums stop)
+work_moves run n values asks sums next stop is leaves = record {
+  node = worked_kept run n values asks sums next stop is leaves;
+  rank = refl;
+  moved = worked_moved run n next stop is leaves.todo leaves.passed leaves.goes;
+}
 
 -- the stages at which a rank works
 pub works_at : (run : Run) (r : ℕ) (stage : Stage) → HasItsLetter run r stage → at_work (todo_of run r stage) ≡ true → (stage ≡ Inspect) ⊎ ((stage ≡ Inner) ⊎ (stage ≡ Outer))
@@ -221,7 +226,7 @@ outer_grown place place' rank known known' es es' old old' new a b d e grown =
 pub own_target : (run : Run) (n : Node) (list slice : List ℕ) → IsNode run n → state_of run n.stage ≡ run.first → slice_get n.values n.target ≡ Some list → slice ≡ list →
     slice ≡ map (read run.first run.target) (owned_indices run.place n.rank)
 own_target run n list slice is state read_is reads =
-    reads ∙ sym (get_or-read_at n.values n.target list [] read_is) ∙ ap (λ a. get_or n.values a []) is.of_run.target ∙ is.part run.target is.of_run.run_is.target_dense ∙
+    reads ∙ sym (get_or_from_slice_get n.values n.target list [] read_is) ∙ ap (λ a. get_or n.values a []) is.of_run.target ∙ is.part run.target is.of_run.run_is.target_dense ∙
     ap (λ st. part_values run st run.target n.rank) state ∙ ap (map (read run.first run.target)) (is.of_run.run_is.target_held n.rank)
 
 pub target_inside : (run : Run) (n : Node) → IsNode run n → n.target < length n.values

@@ -16,13 +16,12 @@ use Rattle.bern_base.specs.declared.job.PlaceDecl.{PlaceDecl}
 use Rattle.bern_base.specs.declared.job.PlaceKind.{PlaceKind}
 use Rattle.bern_base.specs.declared.job.PlaceKind.TheVariants.{Block, Cyclic, Listed}
 use Rattle.bern_base.specs.declared.job.Product.{roll-Product}
-use Rattle.bern_base.specs.declared.job.Span.{Span}
-use Rattle.bern_base.specs.declared.job.Shape.{Shape}
-use Rattle.bern_base.specs.declared.job.Shape.TheVariants as shape
-use Rattle.dense_model.specs.State.{matrix_values}
+use Rattle.job_model.specs.Points.{bounds_of}
+use Rattle.job_model.specs.Runnable.{is_dense}
+use Rattle.bern_base.specs.Matrix.{matrix_values}
 use Rattle.placement.specs.declared.part.Part.{Part}
 use Rattle.placement.specs.Cyclic.{cyclic_triples}
-use Rattle.rank_model.specs.Runs.{Run, answer_part, part_values}
+use Rattle.rank_model.specs.Products.{Run, answer_part, part_values}
 
 -- the array that a factor reads
 abbrev pub array_of : Factor → Option ℕ
@@ -44,28 +43,9 @@ block_of (Cyclic block) extent ranks = Some block
 block_of (Listed file) extent ranks = None
 
 -- an array is stored whole where each level of its format is dense
-abbrev pub is_whole_shape : Shape → Bool
-is_whole_shape shape.DenseOne = true
-is_whole_shape shape.PackedOne = false
-is_whole_shape shape.ListOne = false
-is_whole_shape (shape.DenseDense axis) = true
-is_whole_shape (shape.DensePacked axis) = false
-is_whole_shape (shape.PackedPacked axis) = false
-is_whole_shape shape.ListTwo = false
-is_whole_shape shape.Jagged = false
-is_whole_shape (shape.Diagonal offsets) = false
-is_whole_shape (shape.Permute file) = false
-
-abbrev pub is_whole_decl : Option FormatDecl → Bool
-is_whole_decl None = false
-is_whole_decl (Some decl) = is_whole_shape decl.shape
-
-abbrev pub is_whole_format : List FormatDecl → ℕ → Bool
-is_whole_format formats format = is_whole_decl (slice_get formats format)
-
 abbrev pub is_whole_array : List FormatDecl → Option ArrayDecl → Bool
 is_whole_array formats None = false
-is_whole_array formats (Some decl) = is_whole_format formats decl.format
+is_whole_array formats (Some decl) = is_dense formats decl
 
 abbrev pub is_whole : Checked → ℕ → Bool
 is_whole job array = is_whole_array job.formats (slice_get job.arrays array)
@@ -86,10 +66,7 @@ product_factors run =
     Read (record { array = run.stored; row = variable_v; col = variable_w })
     ∷ Read (record { array = run.source; row = variable_w; col = nothing }) ∷ []
 
--- the values of a loop variable, from the first to one below the second
-abbrev pub bounds_of : Span → ℤ × ℤ
-bounds_of span = (span.lo, span.hi)
-
+-- the values of a loop variable over the whole extent, from the first to one below the second
 abbrev pub whole_extent : Run → ℤ × ℤ
 whole_extent run = (pos 0, pos (length run.place))
 
@@ -119,10 +96,16 @@ pub record IsJobOf (run : Run) (job : Checked) : Type 0 where
   pub dealt : run.place ≡ cyclic_triples extent.size run.ranks block
   pub whole : (number : ℕ) → run.dense number ≡ is_whole job number
 
+-- the place of the run deals an extent in blocks
+pub record IsDealing (run : Run) (extent block : ℕ) : Type 0 where
+  pub some : 0 < block
+  pub place : run.place ≡ cyclic_triples extent run.ranks block
+
 -- the parts of the arrays are those of this rank in the first state
 pub record ArePartsOf (run : Run) (rank : ℕ) (parts : List Part) : Type 0 where
   pub long : length parts ≡ length run.first
-  pub inside : (array : ℕ) (part : Part) → slice_get parts array ≡ Some part → run.dense array ≡ true → All (IsInside part.matrix.rows part.matrix.cols) part.matrix.entries
+  pub inside : (array : ℕ) (part : Part) → slice_get parts array ≡ Some part → run.dense array ≡ true →
+      All (IsInside part.matrix.rows part.matrix.cols) part.matrix.entries
   pub whole : (array : ℕ) (part : Part) → slice_get parts array ≡ Some part → run.dense array ≡ true →
       matrix_values part.matrix.rows part.matrix.cols part.matrix.entries ≡ part_values run run.first array rank
   pub stored : run.stored < length parts

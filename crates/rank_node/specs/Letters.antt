@@ -3,7 +3,7 @@ use Rattle.std.specs.Prelude.{ℕ, List, [], ◌∷◌}
 use Rattle.bern_base.specs.declared.letter.Letter.{Letter}
 use Rattle.bern_base.specs.declared.letter.Letter.TheVariants.{Request, Values}
 use Rattle.bern_base.specs.declared.letter.NeedSet.{NeedSet}
-use Rattle.rank_model.specs.Letters.{need_sets}
+use Rattle.rank_model.specs.Schedules.{need_sets}
 
 -- the elements of the first set, if there is one
 abbrev pub asked_elements : List NeedSet → List ℕ
@@ -13,7 +13,7 @@ asked_elements (set ∷ sets) = set.elements
 -- the elements that a letter asks for
 abbrev pub asked_by : Letter → List ℕ
 asked_by (Request needs) = asked_elements needs.sets
-asked_by (Values nest values) = []
+asked_by (Values turn values) = []
 
 -- those that the first letter asks for
 abbrev pub asked_in : List Letter → List ℕ
@@ -23,13 +23,13 @@ asked_in (letter ∷ letters) = asked_by letter
 -- the values of a letter
 abbrev pub letter_values : Letter → List ℕ
 letter_values (Request needs) = []
-letter_values (Values nest values) = values
+letter_values (Values turn values) = values
 
--- the values of the letter behind the Request
-abbrev pub nest_values : List Letter → List ℕ
-nest_values [] = []
-nest_values (request ∷ []) = []
-nest_values (request ∷ letter ∷ letters) = letter_values letter
+-- the values of the letter after the Request
+abbrev pub turn_values : List Letter → List ℕ
+turn_values [] = []
+turn_values (request ∷ []) = []
+turn_values (request ∷ letter ∷ letters) = letter_values letter
 
 abbrev pub request_of : ℕ → ℕ → List ℕ → Letter
 request_of owner array elements = Request (record { sets = need_sets 0 owner array elements })

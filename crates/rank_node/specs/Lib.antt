@@ -1,6 +1,6 @@
 pub mod Jobs
 pub mod Letters
-pub mod Made
+pub mod Holdings
 pub mod NodeStates
 pub mod Positions
 pub mod Sets

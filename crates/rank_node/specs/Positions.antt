@@ -2,30 +2,28 @@
 use Rattle.std.specs.Prelude.{◌≡◌, ◌≢◌, ℕ, ◌-◌, ◌<◌, Bool, true, false, List, [], ◌∷◌, ◌++◌, Option, ⊤}
 use Rattle.bern_base.specs.declared.letter.Letter.{Letter}
 use Rattle.rank_scripts.specs.Acts.{Act, Work, Post, Wait}
-use Rattle.rank_scripts.specs.Nodes.{Position, has_all, behind}
-use Rattle.rank_scripts.specs.Rounds.{due_of, posts_between, request_round, nest_round}
-use Rattle.dense_model.specs.State.{State}
-use Rattle.rank_model.specs.Runs.{Run}
-use Rattle.rank_model.specs.States.{state_before, end_state}
-use Rattle.rank_model.specs.Sets.{send}
-use Rattle.rank_model.specs.Letters.{request, values_letter, values_in, scripts}
+use Rattle.rank_scripts.specs.Nodes.{Position, has_all, past_waits}
+use Rattle.rank_scripts.specs.Rounds.{due_of, posts_between, request_round, turn_round}
+use Rattle.job_model.specs.State.{State}
+use Rattle.rank_model.specs.Products.{Run, end_state, scripts, send, state_before, schedule}
+use Rattle.rank_model.specs.Schedules.{request, values_in, values_letter}
 use Rattle.rank_node.specs.declared.stage.Stage.{Stage}
 use Rattle.rank_node.specs.declared.stage.Stage.TheVariants.{Inspect, Request, AwaitRequests, Values, Inner, AwaitValues, Outer, Done}
 use Rattle.rank_node.specs.declared.stage.Want.{Want}
 use Rattle.rank_node.specs.declared.stage.Want.TheVariants as want
 
--- the letters that are due from rank r to each other one: the Requests, and the values of the nest
+-- the letters that are due from rank r to each other one: the Requests, and the values of the turn
 abbrev pub due_request : Run → ℕ → ℕ → Option Letter
-due_request run r q = due_of r q (request_round (request run))
+due_request run r q = due_of r q (request_round (request (schedule run)))
 
 abbrev pub due_values : Run → ℕ → ℕ → Option Letter
-due_values run r q = due_of r q (nest_round (values_letter run) 0)
+due_values run r q = due_of r q (turn_round (values_letter (schedule run)) 0)
 
--- what comes behind the posts of the nest: the inner points, the wait, the outer points
+-- what comes after the posts of the turn: the inner points, the wait, the outer points
 abbrev pub from_inner : List (Act Letter)
 from_inner = Work ∷ Wait ∷ Work ∷ []
 
--- the posts to the ranks from `to` on, and what comes behind them
+-- the posts to the ranks from `to` on, and what comes after them
 abbrev pub from_values : Run → ℕ → ℕ → List (Act Letter)
 from_values run r to = posts_between (due_values run r) to (run.ranks - to) ++ from_inner
 
@@ -68,7 +66,7 @@ HasItsLetter run r AwaitValues = ⊤
 HasItsLetter run r Outer = ⊤
 HasItsLetter run r Done = ⊤
 
--- the state of which a rank at this stage holds its part: that before the nest, and at its end that behind it
+-- the state of which a rank at this stage holds its part: that before the turn, and at its end that after it
 abbrev pub state_of : Run → Stage → State
 state_of run Inspect = state_before run
 state_of run (Request to) = state_before run
@@ -101,9 +99,9 @@ is_summed AwaitValues = true
 is_summed Outer = true
 is_summed Done = false
 
--- rank r has gone on behind each wait that it can pass, from the first stage to the second
+-- rank r has gone past each wait that it can pass, from the first stage to the second
 pub record GoesTo (run : Run) (r : ℕ) (given : ℕ → List Letter) (from to : Stage) : Type 0 where
-  pub position : behind (has_all (scripts run) r given) (passed_of from) (todo_of run r from) ≡ position_of run r to
+  pub position : past_waits (has_all (scripts run) r given) (passed_of from) (todo_of run r from) ≡ position_of run r to
   pub letter : HasItsLetter run r to
   pub inspected : is_inspected to ≡ is_inspected from
   pub summed : is_summed to ≡ is_summed from
@@ -116,7 +114,7 @@ want_of (Work ∷ acts) = want.Work
 want_of (Post to letter ∷ acts) = want.Post to
 want_of (Wait ∷ acts) = want.Letter
 
--- behind a post to rank `to` of a letter with so many values rank r comes to the next stage
+-- after a post to rank `to` of a letter with so many values rank r reaches the next stage
 pub record Posts (run : Run) (r to : ℕ) (stage next : Stage) (values : ℕ) : Type 0 where
   pub letter : Letter
   pub todo : todo_of run r stage ≡ Post to letter ∷ todo_of run r next

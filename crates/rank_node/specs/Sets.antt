@@ -3,7 +3,7 @@ use Rattle.std.specs.Prelude.{◌≡◌, ℕ, ◌<◌, ◌⊎◌, Bool, List, le
 use Rattle.std.specs.List.{range_with_len}
 use Rattle.bern_base.specs.declared.matrix.Entry.{Entry}
 use Rattle.placement.specs.Placement.{Triple, local_of}
-use Rattle.rank_model.specs.Sets.{reads, is_received}
+use Rattle.rank_model.specs.Products.{is_received, reads}
 
 -- those that rank q owns, rising; none where q is the rank itself
 abbrev pub asked_of : List Triple → List Entry → ℕ → ℕ → ℕ → List ℕ

@@ -11,11 +11,13 @@ is_inner place rank e = owner_of place e.col == rank
 
 -- what a stored element adds to the sum l, by the rank's own values of D
 abbrev pub inner_term : List Triple → ℕ → List ℕ → ℕ → Entry → ℕ
-inner_term place rank own l e = if is_inner place rank e then (if e.row == l then e.value * slice_index own (local_of place e.col) else 0) else 0
+inner_term place rank own l e =
+    if is_inner place rank e then (if e.row == l then e.value * slice_index own (local_of place e.col) else 0) else 0
 
 -- the same at a point that is not inner, by values of D for its element numbers
 abbrev pub outer_term : List Triple → ℕ → List ℕ → ℕ → Entry → ℕ
-outer_term place rank known l e = if is_inner place rank e then 0 else (if e.row == l then e.value * slice_index known e.col else 0)
+outer_term place rank known l e =
+    if is_inner place rank e then 0 else (if e.row == l then e.value * slice_index known e.col else 0)
 
 -- each sum has grown by its terms at these entries, modulo 2^64
 pub record HaveGrown (term : ℕ → Entry → ℕ) (entries : List Entry) (old new : List ℕ) : Type 0 where

@@ -1,7 +1,9 @@
-ghost use Rattle.std.specs.Prelude.{◌≡◌, ◌<◌};
-ghost use Rattle.rank_node.specs.Jobs.{array_read, block_of, is_whole_shape, is_whole_format, is_whole};
+ghost use Rattle.std.specs.Prelude.{◌≡◌, ◌<◌, slice_get};
+ghost use Rattle.job_model.specs.Runnable.{is_dense_format};
+ghost use Rattle.rank_model.specs.Products.{Run};
+ghost use Rattle.rank_node.specs.Jobs.{IsDealing, IsJobOf, IsProductNest, array_read, block_of, is_whole, nothing, variable_v, variable_w};
 
-use bern_base::{Checked, Factor, Items, PlaceKind, Shape};
+use bern_base::{Affine, Checked, Factor, Items, Nest, PlaceKind};
 
 /// The array that a factor reads, if it reads one.
 pub fn array_read(factors: &Items<Factor>, at: usize) -> Option<u32>
@@ -11,6 +13,27 @@ pub fn array_read(factors: &Items<Factor>, at: usize) -> Option<u32>
         Some(Factor::Read(reference)) => Some(reference.array),
         _ => None,
     }
+}
+
+/// The form of the first loop variable, v.
+pub fn variable_v() -> Affine
+    ensures { result ≡ variable_v }
+{
+    Affine::new(0, [1, 0, 0, 0])
+}
+
+/// The form of the second loop variable, w.
+pub fn variable_w() -> Affine
+    ensures { result ≡ variable_w }
+{
+    Affine::new(0, [0, 1, 0, 0])
+}
+
+/// The form that is 0 at each point.
+pub fn nothing() -> Affine
+    ensures { result ≡ nothing }
+{
+    Affine::new(0, [0, 0, 0, 0])
 }
 
 /// How many indices a place deals at a time, where it deals in blocks.
@@ -36,20 +59,45 @@ pub(crate) fn is_whole(job: &Checked, array: usize) -> bool
 }
 
 fn is_whole_format(job: &Checked, format: usize) -> bool
-    ensures { result ≡ is_whole_format job.now.formats format }
+    ensures { result ≡ is_dense_format (slice_get job.now.formats format) }
 {
     match job.formats.get(format) {
-        Some(decl) => is_whole_shape(&decl.shape),
+        Some(decl) => decl.shape.is_all_dense(),
         None => false,
     }
 }
 
-fn is_whole_shape(shape: &Shape) -> bool
-    ensures { result ≡ is_whole_shape shape.now }
+/// The extent of the place of an array, and how many of its indices are dealt at a time.
+pub(crate) fn dealing(job: &Checked, array: u32, ranks: u32) -> (u32, u32)
+    ghost run: { Run }
+    requires job { IsJobOf run job.now }
+    requires array { array ≡ run.target }
+    requires some { 0 < ranks }
+    requires ranks { ranks ≡ run.ranks }
+    ensures { IsDealing run result.0 result.1 }
 {
-    match shape {
-        Shape::DenseOne => true,
-        Shape::DenseDense(_) => true,
-        _ => false,
+    let array = job.arrays.at(array as usize);
+    let place = job.places.at(array.place as usize);
+    let extent = job.extents.at(place.extent as usize).size;
+    match block_of(&place.kind, extent, ranks) {
+        Some(block) => (extent, block),
+        None => unreachable!(),
+    }
+}
+
+/// The arrays that the two factors of a nest read.
+pub(crate) fn factors(nest: &Nest) -> (u32, u32)
+    ghost run: { Run }
+    requires { IsProductNest run nest.now }
+    ensures stored { result.0 ≡ run.stored }
+    ensures source { result.1 ≡ run.source }
+{
+    let product = nest.body.sums.at(0);
+    match array_read(&product.factors, 0) {
+        Some(stored) => match array_read(&product.factors, 1) {
+            Some(source) => (stored, source),
+            None => unreachable!(),
+        },
+        None => unreachable!(),
     }
 }

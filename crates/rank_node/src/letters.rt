@@ -1,5 +1,5 @@
 ghost use Rattle.std.specs.Prelude.{◌≡◌, IfOk};
-ghost use Rattle.rank_node.specs.Letters.{asked_in, asked_elements, request_of, nest_values};
+ghost use Rattle.rank_node.specs.Letters.{asked_in, asked_elements, request_of, turn_values};
 
 use bern_base::{Items, Letter, NeedSet, Needs, NoMemory, Val};
 use std::alloc::Global;
@@ -23,9 +23,9 @@ fn asked_elements(needs: &Needs) -> &[u32]
     }
 }
 
-/// The values of the nest: those of the letter behind the Request.
+/// The values of the turn: those of the letter after the Request.
 pub(crate) fn values_in(letters: &Items<Letter>) -> &[Val]
-    ensures { result.now ≡ nest_values letters.now }
+    ensures { result.now ≡ turn_values letters.now }
 {
     match letters.get(1) {
         Some(Letter::Values { values, .. }) => values.as_slice(),

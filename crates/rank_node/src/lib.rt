@@ -3,16 +3,16 @@
 //! Ranks, arrays, element numbers and local numbers count from 0.
 #![tactic(auto)]
 
+mod holdings;
 mod job;
 mod letters;
-mod made;
 mod node;
 mod sets;
 mod settle;
 mod stage;
 mod sums;
 
-pub use job::array_read;
+pub use job::{array_read, nothing, variable_v, variable_w};
 pub use node::Node;
 pub use sets::{asked_sets, values_at};
 pub use stage::Want;

@@ -2,21 +2,20 @@ ghost use Rattle.std.specs.Prelude.{◌≡◌, ◌<◌, true, false, [], ◌∷�
 ghost use Rattle.std.specs.List.{sum_by};
 ghost use Rattle.rank_scripts.specs.Acts.{at_work, at_post, at_end};
 ghost use Rattle.rank_scripts.specs.Scripts.{book, IsFrontOf, IsNextOf};
-ghost use Rattle.rank_scripts.specs.Nodes.{fresh, sent, worked, posted, took};
-ghost use Rattle.rank_model.specs.Runs.{Run, IsRun, part_values};
-ghost use Rattle.rank_model.specs.States.{state_before, end_state};
-ghost use Rattle.rank_model.specs.Letters.{request, values_letter, scripts, values_in as letter_size};
+ghost use Rattle.rank_scripts.specs.Nodes.{fresh, sent};
+ghost use Rattle.rank_model.specs.Products.{IsRun, Run, end_state, part_values, scripts, state_before, schedule};
+ghost use Rattle.rank_model.specs.Schedules.{request, values_in as letter_size, values_letter};
 ghost use Rattle.rank_node.specs.Jobs.{IsJobOf, ArePartsOf};
 ghost use Rattle.rank_node.specs.Positions.{want_of, state_of, Posts};
-ghost use Rattle.rank_node.specs.Sums.{HaveGrown, inner_term};
 ghost use Rattle.rank_node.specs.Waits.{AreKnown};
-ghost use Rattle.rank_node.specs.NodeStates.{node_of, values_held, IsNode, IsFirstOfRest, IsNextToPost};
+ghost use Rattle.rank_node.specs.NodeStates.{node_of, HasPosted, HasTaken, HasWorked, HaveInnerSums, IsFirstOfRest, IsNextToPost, IsNode};
 
+use crate::holdings::{all_values, stored_entries};
+use crate::job::{dealing, factors};
 use crate::letters::{asked_in, request_of, values_in};
-use crate::made::{all_values, dealing, empty_lists, factors, no_tallies, stored_entries};
-use crate::sets::{asked_sets, put_values, values_at};
+use crate::sets::{asked_sets, empty_lists, put_values, values_at};
 use crate::settle::settled;
-use crate::stage::{Stage, Tally, Want};
+use crate::stage::{Stage, Tally, Want, no_tallies};
 use crate::sums::{add_inner, add_outer, applied, zeros};
 use bern_base::{Checked, Entry, Items, Letter, NoMemory, Val};
 use placement::{Cyclic, Part, Placement};
@@ -138,14 +137,16 @@ impl Node {
     }
 
     /// The values of the rank's part of an array that is stored whole, by its own numbers of the elements: those before
-    /// the nest, and once the rank is done those behind it.
+    /// the turn, and once the rank is done those after it.
     pub fn owned_values(&self, array: u32) -> &Items<Val>
         ghost run: { Run }
         requires node { IsNode run self.now }
         requires array { array < length run.first }
         requires whole { run.dense array ≡ true }
-        ensures before { at_end (node_of run self.now).todo ≡ false → result.now ≡ part_values run (state_before run) array self.now.rank }
-        ensures end { at_end (node_of run self.now).todo ≡ true → result.now ≡ part_values run (end_state run) array self.now.rank }
+        ensures before { at_end (node_of run self.now).todo ≡ false →
+            result.now ≡ part_values run (state_before run) array self.now.rank }
+        ensures end { at_end (node_of run self.now).todo ≡ true →
+            result.now ≡ part_values run (end_state run) array self.now.rank }
     {
         self.values.at(array as usize)
     }
@@ -169,7 +170,7 @@ impl Node {
         ghost run: { Run }
         requires node { IsNode run self.now }
         requires to { self.now.stage ≡ Stage.Request to }
-        ensures { IfOk result (λ letter. letter ≡ request run self.now.rank to) }
+        ensures { IfOk result (λ letter. letter ≡ request (schedule run) self.now.rank to) }
     {
         request_of(alloc, to, self.source, self.asks.at(to as usize).as_slice())
     }
@@ -178,22 +179,20 @@ impl Node {
         ghost run: { Run }
         requires node { IsNode run self.now }
         requires to { self.now.stage ≡ Stage.Values to }
-        ensures { IfOk result (λ letter. values_letter run 0 self.now.rank to ≡ Some letter) }
+        ensures { IfOk result (λ letter. values_letter (schedule run) 0 self.now.rank to ≡ Some letter) }
     {
         let asked = asked_in(self.given.at(to as usize));
         let own = self.values.at(self.source as usize);
         let values = values_at(alloc, asked, &self.place(), self.rank, own.as_slice())?;
-        Ok(Letter::Values { nest: 0, values })
+        Ok(Letter::Values { turn: 0, values })
     }
 
-    /// Moves on behind the post of a letter.
+    /// Moves on after the post of a letter.
     pub fn posted(&mut self)
         ghost run: { Run }
         requires node { IsNode run self.old }
         requires post { at_post (node_of run self.old).todo ≡ true }
-        ensures node { IsNode run self.new }
-        ensures rank { self.new.rank ≡ self.old.rank }
-        ensures moved { node_of run self.new ≡ posted (scripts run) self.old.rank (node_of run self.old) }
+        ensures { HasPosted run self.old self.new }
     {
         match self.stage {
             Stage::Request { to } => self.post(to, 0, Stage::Request { to: to + 1 }),
@@ -205,15 +204,13 @@ impl Node {
         }
     }
 
-    /// Counts a letter with so many values, and goes on from behind its post.
+    /// Counts a letter with so many values, and goes on after its post.
     fn post(&mut self, to: u32, values: u64, next: Stage)
         ghost run: { Run }
         requires node { IsNode run self.old }
         requires to { to < run.ranks }
         requires post { Posts run self.old.rank to self.old.stage next values }
-        ensures node { IsNode run self.new }
-        ensures rank { self.new.rank ≡ self.old.rank }
-        ensures moved { node_of run self.new ≡ posted (scripts run) self.old.rank (node_of run self.old) }
+        ensures { HasPosted run self.old self.new }
     {
         let tally = *self.sent.at(to as usize);
         self.sent.set(
@@ -234,9 +231,7 @@ impl Node {
         requires node { IsNode run self.old }
         requires from { from < run.ranks }
         requires letter { IsNextOf (book (scripts run) from self.old.rank) ((node_of run self.old).given from) letter }
-        ensures node { OnOk result (IsNode run self.new) }
-        ensures rank { OnOk result (self.new.rank ≡ self.old.rank) }
-        ensures moved { OnOk result (node_of run self.new ≡ took (scripts run) self.old.rank (node_of run self.old) from (letter ∷ [])) }
+        ensures ok { OnOk result (HasTaken run from (letter ∷ []) self.old self.new) }
         ensures err { OnErr result (self.new ≡ self.old) }
         ensures back { IfErr result (λ back. back ≡ letter) }
     {
@@ -255,9 +250,7 @@ impl Node {
         ghost run: { Run }
         requires node { IsNode run self.old }
         requires work { at_work (node_of run self.old).todo ≡ true }
-        ensures node { OnOk result (IsNode run self.new) }
-        ensures rank { OnOk result (self.new.rank ≡ self.old.rank) }
-        ensures moved { OnOk result (node_of run self.new ≡ worked (scripts run) self.old.rank (node_of run self.old)) }
+        ensures ok { OnOk result (HasWorked run self.old self.new) }
         ensures err { OnErr result (self.new ≡ self.old) }
     {
         match self.stage {
@@ -272,9 +265,7 @@ impl Node {
         ghost run: { Run }
         requires node { IsNode run self.old }
         requires stage { self.old.stage ≡ Stage.Inspect }
-        ensures node { OnOk result (IsNode run self.new) }
-        ensures rank { OnOk result (self.new.rank ≡ self.old.rank) }
-        ensures moved { OnOk result (node_of run self.new ≡ worked (scripts run) self.old.rank (node_of run self.old)) }
+        ensures ok { OnOk result (HasWorked run self.old self.new) }
         ensures err { OnErr result (self.new ≡ self.old) }
     {
         let place = self.place();
@@ -304,9 +295,7 @@ impl Node {
         ghost run: { Run }
         requires node { IsNode run self.old }
         requires stage { self.old.stage ≡ Stage.Inner }
-        ensures node { OnOk result (IsNode run self.new) }
-        ensures rank { OnOk result (self.new.rank ≡ self.old.rank) }
-        ensures moved { OnOk result (node_of run self.new ≡ worked (scripts run) self.old.rank (node_of run self.old)) }
+        ensures ok { OnOk result (HasWorked run self.old self.new) }
         ensures err { OnErr result (self.new ≡ self.old) }
     {
         let sums = match self.inner_sums(alloc) {
@@ -329,7 +318,7 @@ impl Node {
         ghost run: { Run }
         requires node { IsNode run self.now }
         requires state { state_of run self.now.stage ≡ run.first }
-        ensures { IfOk result (λ sums. HaveGrown (inner_term run.place self.now.rank (values_held self.now run.source)) self.now.entries (replicate (length (run.held run.target self.now.rank)) 0) sums) }
+        ensures { IfOk result (λ sums. HaveInnerSums run self.now sums) }
     {
         let count = self.values.at(self.target as usize).len();
         let mut sums = zeros(alloc, count)?;
@@ -348,9 +337,7 @@ impl Node {
         ghost run: { Run }
         requires node { IsNode run self.old }
         requires stage { self.old.stage ≡ Stage.Outer }
-        ensures node { OnOk result (IsNode run self.new) }
-        ensures rank { OnOk result (self.new.rank ≡ self.old.rank) }
-        ensures moved { OnOk result (node_of run self.new ≡ worked (scripts run) self.old.rank (node_of run self.old)) }
+        ensures ok { OnOk result (HasWorked run self.old self.new) }
         ensures err { OnErr result (self.new ≡ self.old) }
     {
         let values = match self.end_values(alloc) {

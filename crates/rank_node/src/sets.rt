@@ -3,7 +3,6 @@ ghost use Rattle.std.specs.List.{All};
 ghost use Rattle.placement.specs.Placement.{owner_of, owned_of};
 ghost use Rattle.rank_node.specs.Sets.{all_asked, own_values, IsMarked, ArePut};
 
-use crate::made::empty_lists;
 use bern_base::{Entry, Items, NoMemory, Val};
 use placement::Placement;
 use std::alloc::Global;
@@ -78,4 +77,15 @@ pub(crate) fn put_values(elements: &[u32], values: &[Val], known: &mut Vec<Val>)
     for at in 0..elements.len() {
         known[elements[at] as usize] = values[at];
     }
+}
+
+/// So many empty lists.
+pub(crate) fn empty_lists<T: Drop>(alloc: Global, count: u32) -> Result<Vec<Items<T>>, NoMemory>
+    ensures { IfOk result (λ lists. lists.items ≡ replicate count []) }
+{
+    let mut lists = Vec::with_capacity(alloc, count as usize)?;
+    for _ in 0..count {
+        lists.push(Items::new(alloc))?;
+    }
+    Ok(lists)
 }

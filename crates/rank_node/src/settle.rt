@@ -1,15 +1,14 @@
 ghost use Rattle.std.specs.Prelude.{◌≡◌, ◌<◌, length, true};
 ghost use Rattle.rank_scripts.specs.Nodes.{has_all};
-ghost use Rattle.rank_model.specs.Runs.{Run};
-ghost use Rattle.rank_model.specs.Letters.{scripts};
+ghost use Rattle.rank_model.specs.Products.{Run, scripts};
 ghost use Rattle.rank_node.specs.Positions.{passed_of, is_inspected, GoesTo};
-ghost use Rattle.rank_node.specs.Waits.{letters_from, due_for, HaveFronts, HaveAsks};
+ghost use Rattle.rank_node.specs.Waits.{letters_from, due_for, AreGiven, HaveAsks};
 
 use crate::letters::asked_in;
 use crate::stage::Stage;
 use bern_base::{Items, Letter};
 
-/// The stage at which a rank stops that has come to this one, behind each wait that it can pass.
+/// The stage at which a rank stops that has reached this one: it goes past each wait that it can pass.
 pub(crate) fn settled(
     rank: u32,
     ranks: u32,
@@ -18,10 +17,7 @@ pub(crate) fn settled(
     stage: Stage,
 ) -> Stage
     ghost run: { Run }
-    requires rank { rank < run.ranks }
-    requires ranks { ranks ≡ run.ranks }
-    requires long { length given.now ≡ ranks }
-    requires fronts { HaveFronts run rank given.now }
+    requires given { AreGiven run rank ranks given.now }
     requires asks { is_inspected stage ≡ true → HaveAsks run rank asks.now }
     requires requests { passed_of stage ≡ 1 → has_all (scripts run) rank (letters_from given.now) 0 ≡ true }
     ensures { GoesTo run rank (letters_from given.now) stage result }
@@ -35,13 +31,10 @@ pub(crate) fn settled(
     }
 }
 
-/// From the post of a Request to this rank or one behind it.
+/// From the post of a Request to this rank or a later one.
 fn at_request(rank: u32, ranks: u32, given: &Items<Items<Letter>>, from: u32) -> Stage
     ghost run: { Run }
-    requires rank { rank < run.ranks }
-    requires ranks { ranks ≡ run.ranks }
-    requires long { length given.now ≡ ranks }
-    requires fronts { HaveFronts run rank given.now }
+    requires { AreGiven run rank ranks given.now }
     ensures { GoesTo run rank (letters_from given.now) (Stage.Request from) result }
 {
     if from < ranks && from != rank {
@@ -56,10 +49,7 @@ fn at_request(rank: u32, ranks: u32, given: &Items<Items<Letter>>, from: u32) ->
 /// From the wait for Requests.
 fn at_request_wait(rank: u32, ranks: u32, given: &Items<Items<Letter>>) -> Stage
     ghost run: { Run }
-    requires rank { rank < run.ranks }
-    requires ranks { ranks ≡ run.ranks }
-    requires long { length given.now ≡ ranks }
-    requires fronts { HaveFronts run rank given.now }
+    requires { AreGiven run rank ranks given.now }
     ensures { GoesTo run rank (letters_from given.now) Stage.AwaitRequests result }
 {
     if has_requests(rank, given) {
@@ -84,13 +74,10 @@ fn at_values_wait(rank: u32, given: &Items<Items<Letter>>, asks: &Items<Items<u3
     }
 }
 
-/// From the post of values to this rank or one behind it.
+/// From the post of values to this rank or a later one.
 fn next_values(rank: u32, ranks: u32, given: &Items<Items<Letter>>, from: u32) -> Stage
     ghost run: { Run }
-    requires rank { rank < run.ranks }
-    requires ranks { ranks ≡ run.ranks }
-    requires long { length given.now ≡ ranks }
-    requires fronts { HaveFronts run rank given.now }
+    requires given { AreGiven run rank ranks given.now }
     requires requests { has_all (scripts run) rank (letters_from given.now) 0 ≡ true }
     ensures { GoesTo run rank (letters_from given.now) (Stage.Values from) result }
 {

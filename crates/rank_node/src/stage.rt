@@ -1,3 +1,8 @@
+ghost use Rattle.std.specs.Prelude.{◌≡◌, replicate, IfOk};
+
+use bern_base::NoMemory;
+use std::alloc::Global;
+
 /// Where a rank stands in its script.
 #[derive(Clone, Copy, Debug, PartialEq, Eq)]
 pub enum Stage {
@@ -31,4 +36,16 @@ pub enum Want {
 pub struct Tally {
     pub letters: u64,
     pub values: u64,
+}
+
+/// Nothing posted, to each of so many ranks.
+pub(crate) fn no_tallies(alloc: Global, ranks: u32) -> Result<Vec<Tally>, NoMemory>
+    ensures { IfOk result (λ tallies. tallies.items ≡ replicate ranks (record { letters = 0; values = 0 })) }
+{
+    let none = Tally {
+        letters: 0,
+        values: 0,
+    };
+    let tallies = vec![in alloc; none; ranks as usize]?;
+    Ok(tallies)
 }

@@ -1,7 +1,7 @@
 ghost use Rattle.std.specs.Prelude.{◌≡◌, ◌<◌, length, map, replicate, IfOk};
 ghost use Rattle.std.specs.List.{All};
 ghost use Rattle.bern_base.specs.Matrix.{IsInside};
-ghost use Rattle.dense_model.specs.State.{matrix_values};
+ghost use Rattle.bern_base.specs.Matrix.{matrix_values};
 ghost use Rattle.placement.specs.Placement.{owned_of};
 ghost use Rattle.rank_node.specs.Sums.{HaveGrown, inner_term, outer_term, sums_of};
 

@@ -7,16 +7,14 @@ use Rattle.std.proofs.lemmas.Grind.{same_number_lists}
 use Rattle.std.proofs.lemmas.List.{get_or-set_same, get_or-set_other, length-set, set-get_or, set-set}
 use Rattle.std.proofs.lemmas.List.FromFn.{length-map-range_with_len, get_or-map-range_with_len}
 use Rattle.bern_base.specs.declared.matrix.Entry.{Entry}
-use Rattle.bern_base.specs.Matrix.{IsInside}
 use Rattle.bern_base.specs.Ring.{ring_add, ring_mul}
-use Rattle.dense_model.specs.Dense.{points}
-use Rattle.dense_model.specs.State.{State, values_in, read, write, matrix_values}
-use Rattle.dense_model.specs.Sums.{add_part, product_part, product_parts}
-use Rattle.dense_model.proofs.SumLemmas.{sum_by-map, sum_by_agree-mod}
-use Rattle.dense_model.proofs.ProductLemmas.{part_at, dense_part, length-fold_add_part, get_or-fold_add_part, summed_at, summed-product_parts}
+use Rattle.bern_base.specs.Matrix.{IsInside, matrix_values}
+use Rattle.job_model.specs.State.{State, values_in, read, write}
+use Rattle.bern_base.proofs.SumLemmas.{sum_by-map, sum_by_agree-mod}
 use Rattle.rank_product.specs.declared.shape.ProductShape.{ProductShape}
+use Rattle.rank_product.proofs.ProductLemmas.{add_part, dense_part, get_or-fold_add_part, length-fold_add_part, part_at, points, product_part, product_parts, summed_at, summed-product_parts}
 
--- one turn of the loops T[v] += S[v,w] * D[w], read in the state reached so far
+-- one point of the loops T[v] += S[v,w] * D[w], read in the state reached so far
 abbrev pub at_point : ProductShape → State → ℕ × ℕ → State
 at_point p state point = write state p.target point.0
     (ring_add (read state p.target point.0) (ring_mul (read state p.stored (point.0 * p.size + point.1)) (read state p.source point.1)))
@@ -75,7 +73,7 @@ row-sum n k a d inside below =
     ∙ ap (λ values. slice_index values k) (summed-product_parts n a d inside)
     ∙ summed_at n dense_parts k below
 
--- behind the loops T has its sums over the entries of S, and all else is as before
+-- after the loops T has its sums over the entries of S, and all else is as before
 pub sums-dense : (p : ProductShape) (first : State) (a : List Entry) (values : ℕ → ℕ) → AreArrays p first (matrix_values p.size p.size a) (values_in first p.source) →
     All (IsInside p.size p.size) a → length (values_in first p.target) ≡ p.size → ((k : ℕ) → k < p.size → read first p.target k < 2 ^ 64) →
     ((k : ℕ) → values k ≡ (read first p.target k + sum_by (λ e. if e.row == k then e.value * read first p.source e.col else 0) a) % 2 ^ 64) →

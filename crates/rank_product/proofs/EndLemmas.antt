@@ -1,21 +1,20 @@
 -- What the owners of the target hold at the end.
 use Rattle.std.proofs.Common.{◌≡◌, ℕ, ◌<◌, true, List, [], Some, length, map, get_or, slice_get, sym, ap, ◌∙◌, arith}
+use Rattle.std.proofs.lemmas.Option.{get_or_from_slice_get}
 use Rattle.std.specs.Prelude.{slice_index}
 use Rattle.std.specs.List.{range_with_len}
 use Rattle.std.proofs.Math.Nat.{zero-add}
 use Rattle.std.proofs.lemmas.List.{length-map, get_or-set_same}
 use Rattle.std.proofs.lemmas.List.FromFn.{get_or-map-range_with_len}
 use Rattle.bern_base.specs.declared.letter.Letter.{Letter}
-use Rattle.dense_model.specs.State.{read}
+use Rattle.job_model.specs.State.{read}
 use Rattle.placement.specs.Placement.{Triple, owner_of, local_of, owned_indices, owned_of}
 use Rattle.placement.specs.PlacementLaws.{owner-below, local-below}
 use Rattle.placement.proofs.IndexLemmas.{length-owned_indices}
-use Rattle.rank_model.specs.Runs.{Run, IsRun, part_values}
-use Rattle.rank_model.specs.States.{end_value, end_state}
+use Rattle.rank_model.specs.Products.{IsRun, Run, end_state, end_value, part_values}
 use Rattle.rank_scripts.specs.Acts.{at_end}
 use Rattle.rank_node.specs.declared.node.Node.{Node}
 use Rattle.rank_node.specs.NodeStates.{node_of}
-use Rattle.rank_node.proofs.ListLemmas.{get_or-read_at}
 use Rattle.rank_node.proofs.SourceLemmas.{own_read}
 use Rattle.interleave.specs.Worlds.{IsFit, AreAtEnd}
 
@@ -69,7 +68,7 @@ pub end_read_at : (run : Run) (place : List Triple) (i l v : ℕ) (held : List �
 end_read_at run place i l v held is h local read_is =
     let at : l ≡ local_of run.place i = local ∙ ap (λ ts. local_of ts i) h.same in
     let owner : owner_of run.place i ≡ h.rank = sym (h.owner ∙ ap (λ ts. owner_of ts i) h.same) in
-    sym (get_or-read_at held l v 0 read_is)
+    sym (get_or_from_slice_get held l v 0 read_is)
     ∙ ap (λ k. get_or held k 0) at
     ∙ own_read run.ranks run.place h.rank i (read (end_state run) run.target) held is.placed (held_values run place i held is h) h.below owner
     ∙ end_read run i is h.below

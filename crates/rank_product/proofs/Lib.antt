@@ -3,6 +3,7 @@ pub mod PlaceLemmas
 pub mod PartsLemmas
 pub mod NodesLemmas
 pub mod EndLemmas
+pub mod ProductLemmas
 pub mod DenseLemmas
 pub mod NestLemmas
 pub mod ShapeLemmas

@@ -8,6 +8,7 @@ use Rattle.std.proofs.lemmas.List.Concat.{flat_map_single}
 use Rattle.std.proofs.lemmas.List.Folds.{flat_map-map, fold-map}
 use Rattle.std.proofs.lemmas.Simd.{map-map}
 use Rattle.bern_base.specs.Affine.{AffineForm, value_at}
+use Rattle.bern_base.specs.Expressions.{by_levels}
 use Rattle.bern_base.specs.Ring.{ring_mul}
 use Rattle.bern_base.specs.declared.job.ArrayDecl.{ArrayDecl}
 use Rattle.bern_base.specs.declared.job.Checked.{Checked}
@@ -17,32 +18,32 @@ use Rattle.bern_base.specs.declared.job.Factor.TheVariants.{Read}
 use Rattle.bern_base.specs.declared.job.Nest.{Nest}
 use Rattle.bern_base.specs.declared.job.Product.{Product, roll-Product}
 use Rattle.bern_base.specs.declared.job.Ref.{Ref}
-use Rattle.bern_base.specs.declared.job.Shape.{Shape}
+use Rattle.bern_base.specs.declared.shape.Shape.{Shape}
 use Rattle.bern_base.specs.declared.job.Span.{Span}
-use Rattle.dense_model.specs.Dense.{points}
-use Rattle.dense_model.specs.State.{State, read}
-use Rattle.nest_model.specs.Elements.{cols_of, element_of}
-use Rattle.nest_model.specs.Nests as nests
-use Rattle.nest_model.specs.Points as box
-use Rattle.nest_model.specs.Values.{product_value, read_at, sum_value, value_in}
+use Rattle.job_model.specs.State.{State, read}
+use Rattle.job_model.specs.Elements.{cols_of, element_of}
+use Rattle.job_model.specs.Nests as nests
+use Rattle.job_model.specs.Points as box
+use Rattle.job_model.specs.Values.{product_value, read_at, sum_value, value_in}
 use Rattle.placement.proofs.ShareLemmas.{map-flat_map, map_agree, flat_map_agree}
-use Rattle.rank_node.specs.Jobs.{bounds_of, variable_v, variable_w, nothing}
+use Rattle.rank_node.specs.Jobs.{variable_v, variable_w, nothing}
 use Rattle.rank_node.proofs.ListLemmas.{some_same}
 use Rattle.rank_product.specs.declared.shape.ProductShape.{ProductShape}
 use Rattle.rank_product.specs.Shapes.{IsProduct, IsNestOf, IsTerm, IsWhole, IsOver, array_is, cols_over, is_dense_level, is_sparse, target_element, stored_element, source_element}
 use Rattle.rank_product.proofs.DenseLemmas.{at_point, dense}
 use Rattle.rank_product.proofs.ListLemmas.{all_at, one_of, two_of}
+use Rattle.rank_product.proofs.ProductLemmas.{points}
 use Rattle.rank_product.proofs.ShapeLemmas.{has_array}
 
 -- both variables go over the whole extent
-box_is : (n : ℕ) (vars : List Span) → length vars ≡ 2 → All (IsWhole n) vars → map bounds_of vars ≡ (pos 0, pos n) ∷ (pos 0, pos n) ∷ []
+box_is : (n : ℕ) (vars : List Span) → length vars ≡ 2 → All (IsWhole n) vars → map box.bounds_of vars ≡ (pos 0, pos n) ∷ (pos 0, pos n) ∷ []
 box_is n vars two whole =
     let vs = two_of vars two in
-    let bounds : (k : ℕ) (s : Span) → slice_get vars k ≡ Some s → bounds_of s ≡ (pos 0, pos n) = λ k s at.
+    let bounds : (k : ℕ) (s : Span) → slice_get vars k ≡ Some s → box.bounds_of s ≡ (pos 0, pos n) = λ k s at.
     let is = all_at (IsWhole n) vars k s whole at in
     ap (λ (lo : ℤ). (lo, s.hi)) is.0 ∙ ap (λ (hi : ℤ). (pos 0, hi)) is.1 in
-    ap (map bounds_of) vs.are
-    ∙ ap (λ (b : ℤ × ℤ). b ∷ bounds_of vs.second ∷ []) (bounds 0 vs.first (ap (λ (xs : List Span). slice_get xs 0) vs.are))
+    ap (map box.bounds_of) vs.are
+    ∙ ap (λ (b : ℤ × ℤ). b ∷ box.bounds_of vs.second ∷ []) (bounds 0 vs.first (ap (λ (xs : List Span). slice_get xs 0) vs.are))
     ∙ ap (λ (b : ℤ × ℤ). (pos 0, pos n) ∷ b ∷ []) (bounds 1 vs.second (ap (λ (xs : List Span). slice_get xs 1) vs.are))
 
 -- a product by its sign and its factors
@@ -62,7 +63,7 @@ term_of p = roll-Product (record { minus = false; factors = Read (stored_element
 
 -- the nest by its parts
 pub record IsLoop (p : ProductShape) (nest : Nest) : Type 0 where
-  pub box : map bounds_of nest.vars ≡ (pos 0, pos p.size) ∷ (pos 0, pos p.size) ∷ []
+  pub box : map box.bounds_of nest.vars ≡ (pos 0, pos p.size) ∷ (pos 0, pos p.size) ∷ []
   pub guards : nest.guards ≡ []
   pub target : nest.target ≡ target_element p
   pub grows : nest.replace ≡ false
@@ -174,7 +175,7 @@ matrix_element arrays p q cols =
 -- the value of an expression that is one product
 value_of_one : (element : Ref → ℕ) (levels : ℕ) (e : Expr) (product : Product) → (out-Expr e).sums ≡ product ∷ [] →
     sum_value element (suc levels) e ≡ product_value element (sum_value element levels) product % 2 ^ 64
-unfolding sum_value
+unfolding by_levels
 value_of_one element levels e product one =
     let value : Product → ℕ = product_value element (sum_value element levels) in
     ap (λ products. sum_by value products % 2 ^ 64) one ∙ ap (λ v. v % 2 ^ 64) (zero-add (value product))
@@ -194,16 +195,16 @@ body_value job p nest state q cols loop =
     ∙ ap (λ at. ring_mul (read state p.stored at) (element (source_element p))) (matrix_element job.arrays p q cols.stored)
     ∙ ap (λ at. ring_mul (read state p.stored (q.0 * p.size + q.1)) (read state p.source at)) (vector_element job.arrays p.source q.1 variable_w q cols.source (at_w q))
 
--- a turn of the nest is one of the loops
-turn_is : (job : Checked) (p : ProductShape) (nest : Nest) → HaveCols p job.arrays → IsLoop p nest → (state : State) (q : ℕ × ℕ) → nests.at_point job.arrays nest state (point_of q) ≡ at_point p state q
-turn_is job p nest cols loop state q =
+-- a point of the nest is one of the loops
+point_is : (job : Checked) (p : ProductShape) (nest : Nest) → HaveCols p job.arrays → IsLoop p nest → (state : State) (q : ℕ × ℕ) → nests.at_point job.arrays nest state (point_of q) ≡ at_point p state q
+point_is job p nest cols loop state q =
     let value : ℕ = value_in job.arrays state (point_of q) nest.body in
     ap (λ (t : Ref). nests.with_changed nest.replace state t.array (element_of job.arrays t (point_of q)) value) loop.target
     ∙ ap (λ replace. nests.with_changed replace state p.target (element_of job.arrays (target_element p) (point_of q)) value) loop.grows
     ∙ ap (λ at. nests.with_changed false state p.target at value) (vector_element job.arrays p.target q.0 variable_v q cols.target (at_v q))
     ∙ ap (λ v. nests.with_changed false state p.target q.0 v) (body_value job p nest state q cols loop)
 
--- folds whose turns agree
+-- folds whose steps agree
 fold_agree : {S X : Type 0} (f g : S → X → S) → ((s : S) (x : X) → f s x ≡ g s x) → (xs : List X) (s : S) → fold f s xs ≡ fold g s xs
 fold_agree f g agree [] s = refl
 fold_agree f g agree (x ∷ xs) s = ap (λ t. fold f t xs) (agree s x) ∙ fold_agree f g agree xs (g s x)
@@ -213,8 +214,9 @@ nests-dense job p first is =
     let ns = one_of job.nests is.one in
     let nest : Nest = ns.first in
     let loop = loop_is p nest (all_at (IsNestOf p) job.nests 0 nest is.nests (ap (λ (xs : List Nest). slice_get xs 0) ns.is)) in
-    let turn : State → List ℤ → State = nests.at_point job.arrays nest in
-    ap (fold (nests.after_nest job.arrays) first) ns.is
-    ∙ ap (fold turn first) (points_are p nest loop)
-    ∙ fold-map turn point_of first (points p.size)
-    ∙ fold_agree (λ state q. turn state (point_of q)) (at_point p) (turn_is job p nest (have_cols job p is) loop) (points p.size) first
+    let visit : State → List ℤ → State = nests.at_point job.arrays nest in
+    ap (fold (nests.after_turn job) first) is.turns
+    ∙ ap (λ (xs : List Nest). nests.after_found job.arrays first (slice_get xs 0)) ns.is
+    ∙ ap (fold visit first) (points_are p nest loop)
+    ∙ fold-map visit point_of first (points p.size)
+    ∙ fold_agree (λ state q. visit state (point_of q)) (at_point p) (point_is job p nest (have_cols job p is) loop) (points p.size) first

@@ -1,7 +1,6 @@
 -- A list of new nodes that grows by one.
 use Rattle.std.proofs.Common.{◌≡◌, ℕ, zero, suc, ◌+◌, List, [], ◌∷◌, ◌++◌, Some, length, slice_get, length-append, refl, sym, ap, ◌∙◌, subst}
-use Rattle.rank_model.specs.Runs.{Run}
-use Rattle.rank_model.specs.Letters.{scripts}
+use Rattle.rank_model.specs.Products.{Run, scripts}
 use Rattle.rank_scripts.specs.Nodes.{fresh}
 use Rattle.rank_node.specs.declared.node.Node.{Node}
 use Rattle.rank_node.specs.NodeStates.{node_of}

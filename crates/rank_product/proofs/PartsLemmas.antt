@@ -13,20 +13,20 @@ use Rattle.std.proofs.lemmas.Option.{slice_get_within, get_or_from_slice_get}
 use Rattle.bern_base.specs.declared.axes.Axis.TheVariants.{Row}
 use Rattle.bern_base.specs.declared.matrix.Entry.{Entry}
 use Rattle.bern_base.specs.declared.matrix.Matrix.{Matrix}
-use Rattle.bern_base.specs.Matrix.{number, IsInside, IsMatrix}
-use Rattle.dense_model.specs.State.{element, matrix_values, values_in, read}
-use Rattle.dense_model.proofs.SumLemmas.{sum_by-map, sum_by_agree}
-use Rattle.dense_model.proofs.ProductLemmas.{get_or-matrix_values}
+use Rattle.bern_base.specs.Matrix.{element, matrix_values, number, values_of, IsInside, IsMatrix}
+use Rattle.job_model.specs.State.{values_in, read}
+use Rattle.bern_base.proofs.SumLemmas.{sum_by-map, sum_by_agree}
+use Rattle.bern_base.proofs.ValuesLemmas.{get_or-matrix_values}
 use Rattle.placement.specs.declared.part.Part.{Part}
 use Rattle.placement.specs.Placement.{Triple, IsPlacement, owner_of, local_of, owned_indices, owned_of, global_of}
 use Rattle.placement.specs.PlacementLaws.{global-below, owner-global, local-global, global-owner-local}
 use Rattle.placement.specs.Part.{is_owned, localized, part_of}
 use Rattle.placement.proofs.IndexLemmas.{length-owned_indices, get_or-owned_indices}
 use Rattle.placement.proofs.PartLemmas.{sized-IsMatrix}
-use Rattle.rank_model.specs.Runs.{part_values}
+use Rattle.rank_model.specs.Products.{part_values}
 use Rattle.rank_node.specs.Jobs.{ArePartsOf}
 use Rattle.rank_product.specs.declared.shape.ProductShape.{ProductShape}
-use Rattle.rank_product.specs.Runs.{values_of, first_state, entries_of, cols_of, block_place, owned_element, owned_elements, run_of, parts_at}
+use Rattle.rank_product.specs.Runs.{first_state, entries_of, cols_of, block_place, owned_element, owned_elements, run_of, parts_at}
 use Rattle.rank_product.proofs.ListLemmas.{all_at, map_at}
 use Rattle.rank_product.proofs.PlaceLemmas.{place_is, length-block_place}
 

@@ -11,20 +11,20 @@ use Rattle.std.proofs.lemmas.Option.{slice_get_within}
 use Rattle.bern_base.specs.declared.job.Checked.{Checked}
 use Rattle.bern_base.specs.declared.job.Nest.{Nest}
 use Rattle.bern_base.specs.declared.job.PlaceKind.{PlaceKind}
+use Rattle.bern_base.specs.declared.limits.TheConstants.{MOST_RANKS, MOST_SIDE}
 use Rattle.bern_base.specs.declared.matrix.Entry.{Entry}
 use Rattle.bern_base.specs.declared.matrix.Matrix.{Matrix}
-use Rattle.bern_base.specs.Matrix.{IsInside, IsMatrix}
-use Rattle.dense_model.specs.State.{element, matrix_values, values_in, read}
-use Rattle.dense_model.proofs.ProductLemmas.{get_or-matrix_values}
-use Rattle.nest_model.specs.Nests.{end_state}
+use Rattle.bern_base.specs.Matrix.{element, matrix_values, values_of, IsInside, IsMatrix}
+use Rattle.job_model.specs.State.{values_in, read}
+use Rattle.bern_base.proofs.ValuesLemmas.{get_or-matrix_values}
+use Rattle.job_model.specs.Nests.{end_state}
 use Rattle.placement.specs.Cyclic.{cyclic_triples}
 use Rattle.placement.specs.Placement.{Triple}
-use Rattle.rank_model.specs.Runs.{IsRun}
-use Rattle.rank_model.specs.States.{end_value}
+use Rattle.rank_model.specs.Products.{IsRun, end_value}
 use Rattle.rank_node.specs.Jobs.{IsJobOf, IsProductNest, block_of, is_whole}
 use Rattle.rank_product.specs.declared.shape.ProductShape.{ProductShape}
 use Rattle.rank_product.specs.Shapes.{IsProduct, IsNestOf, IsOver, is_dense_level, is_sparse}
-use Rattle.rank_product.specs.Runs.{AreOfJob, block_place, entries_of, cols_of, first_state, owned_elements, run_of, values_of}
+use Rattle.rank_product.specs.Runs.{AreOfJob, block_place, entries_of, cols_of, first_state, owned_elements, run_of}
 use Rattle.rank_product.proofs.DenseLemmas.{AreArrays, sums-dense}
 use Rattle.rank_product.proofs.NestLemmas.{loop_is, nests-dense}
 use Rattle.rank_product.proofs.ListLemmas.{all_at, one_of}
@@ -69,7 +69,7 @@ vector_long ms n k m =
 vector_held : (ms : List Matrix) (n k : ℕ) (ts : List Triple) (r : ℕ) → IsMatrixAt ms n 1 k → owned_elements (cols_of (slice_get ms k)) ts r ≡ owned_elements 1 ts r
 vector_held ms n k ts r m = ap (λ found. owned_elements (cols_of found) ts r) m.there ∙ ap (λ c. owned_elements c ts r) m.cols
 
-pub run_is : (job : Checked) (p : ProductShape) (ranks : ℕ) (ms : List Matrix) → IsProduct job p → AreOfJob job ms → 1 ≤ ranks → ranks ≤ 64 → IsRun (run_of (is_whole job) p ranks ms)
+pub run_is : (job : Checked) (p : ProductShape) (ranks : ℕ) (ms : List Matrix) → IsProduct job p → AreOfJob job ms → 1 ≤ ranks → ranks ≤ MOST_RANKS → IsRun (run_of (is_whole job) p ranks ms)
 run_is job p ranks ms is are some most =
     let ts : List Triple = block_place p.size ranks in
     let long : length ts ≡ p.size = length-block_place p.size ranks in
@@ -78,7 +78,7 @@ run_is job p ranks ms is are some most =
       some = some;
       most = most;
       placed = place_is p.size ranks is.some some;
-      extent = subst (λ n. n ≤ 4194304) (sym long) is.most;
+      extent = subst (λ n. n ≤ MOST_SIDE) (sym long) is.most;
       inside = subst (λ n. All (IsInside n n) (entries_of (slice_get ms p.stored))) (sym long) (stored_inside job p ms is are);
       apart = is.apart;
       target = subst (λ n. p.target < n) (sym all) (slice_get_within ms p.target m.target.of m.target.there);

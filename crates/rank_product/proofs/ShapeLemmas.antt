@@ -17,10 +17,12 @@ use Rattle.bern_base.specs.declared.job.PlaceKind.{PlaceKind}
 use Rattle.bern_base.specs.declared.job.PlaceKind.TheVariants.{Block, Cyclic, Listed}
 use Rattle.bern_base.specs.declared.job.Product.{Product}
 use Rattle.bern_base.specs.declared.job.Ref.{Ref}
-use Rattle.bern_base.specs.declared.job.Shape.{Shape}
-use Rattle.bern_base.specs.declared.job.Shape.TheVariants as shape
+use Rattle.bern_base.specs.Shapes.{is_all_dense}
+use Rattle.bern_base.specs.declared.shape.Shape.{Shape}
+use Rattle.bern_base.specs.declared.shape.Shape.TheVariants as shape
 use Rattle.bern_base.specs.declared.matrix.Matrix.{Matrix}
-use Rattle.rank_node.specs.Jobs.{array_of_some, array_read, is_whole, is_whole_array, is_whole_decl, is_whole_shape}
+use Rattle.job_model.specs.Runnable.{is_dense_format}
+use Rattle.rank_node.specs.Jobs.{array_of_some, array_read, is_whole, is_whole_array}
 use Rattle.rank_node.proofs.ListLemmas.{some_same}
 use Rattle.rank_product.specs.declared.shape.ProductShape.{ProductShape}
 use Rattle.rank_product.specs.Shapes.{IsProduct, IsNestOf, IsTerm, IsOver, cols_over, is_dense_level, format_is, array_is, is_vector, is_block, extent_is, place_is}
@@ -52,7 +54,7 @@ has_array test dims formats (Some array) is = record {
   format = and_second (array.dims == dims) (format_is test (slice_get formats array.format)) is;
 }
 
-dense_is_whole : (s : Shape) → is_dense_level s ≡ true → is_whole_shape s ≡ true
+dense_is_whole : (s : Shape) → is_dense_level s ≡ true → is_all_dense s ≡ true
 dense_is_whole shape.DenseOne is = refl
 dense_is_whole shape.PackedOne is = absurd (false≢true is)
 dense_is_whole shape.ListOne is = absurd (false≢true is)
@@ -64,7 +66,7 @@ dense_is_whole shape.Jagged is = absurd (false≢true is)
 dense_is_whole (shape.Diagonal offsets) is = absurd (false≢true is)
 dense_is_whole (shape.Permute file) is = absurd (false≢true is)
 
-format_whole : (found : Option FormatDecl) → format_is is_dense_level found ≡ true → is_whole_decl found ≡ true
+format_whole : (found : Option FormatDecl) → format_is is_dense_level found ≡ true → is_dense_format found ≡ true
 format_whole None is = absurd (false≢true is)
 format_whole (Some format) is = dense_is_whole format.shape is
 

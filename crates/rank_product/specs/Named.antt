@@ -18,7 +18,8 @@ shape_at target None source found = None
 
 abbrev pub shape_of_term : Checked → ℕ → Option Product → Option ProductShape
 shape_of_term job target None = None
-shape_of_term job target (Some product) = shape_at target (array_read product.factors 0) (array_read product.factors 1) (slice_get job.arrays target)
+shape_of_term job target (Some product) =
+    shape_at target (array_read product.factors 0) (array_read product.factors 1) (slice_get job.arrays target)
 
 abbrev pub shape_of_nest : Checked → Option Nest → Option ProductShape
 shape_of_nest job None = None

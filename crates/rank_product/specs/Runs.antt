@@ -2,24 +2,21 @@
 use Rattle.std.specs.Prelude.{◌≡◌, ℕ, ◌+◌, ◌*◌, ◌/◌, ◌%◌, Bool, List, [], Option, Some, None, map, slice_get}
 use Rattle.std.specs.Int.{div_ceil}
 use Rattle.std.specs.List.{All, range_with_len}
-use Rattle.bern_base.specs.Matrix.{IsMatrix}
+use Rattle.bern_base.specs.Matrix.{IsMatrix, values_of}
 use Rattle.bern_base.specs.declared.axes.Axis.TheVariants.{Row}
 use Rattle.bern_base.specs.declared.job.ArrayDecl.{ArrayDecl}
 use Rattle.bern_base.specs.declared.job.Checked.{Checked}
 use Rattle.bern_base.specs.declared.matrix.Entry.{Entry}
 use Rattle.bern_base.specs.declared.matrix.Matrix.{Matrix}
-use Rattle.dense_model.specs.State.{State, matrix_values}
+use Rattle.job_model.specs.State.{State}
 use Rattle.placement.specs.Cyclic.{cyclic_triples}
 use Rattle.placement.specs.Part.{part_of}
 use Rattle.placement.specs.Placement.{Triple, owned_of, global_of}
 use Rattle.placement.specs.declared.part.Part.{Part}
-use Rattle.rank_model.specs.Runs.{Run}
+use Rattle.rank_model.specs.Products.{Run}
 use Rattle.rank_product.specs.declared.shape.ProductShape.{ProductShape}
 
 -- the values that the arrays begin with
-abbrev pub values_of : Matrix → List ℕ
-values_of m = matrix_values m.rows m.cols m.entries
-
 abbrev pub first_state : List Matrix → State
 first_state matrices = map values_of matrices
 

@@ -1,5 +1,5 @@
 -- Jobs of one product: T[v] += S[v,w] * D[w] over the whole extent of v and w.
-use Rattle.std.specs.Prelude.{◌≡◌, ◌≢◌, ℕ, ◌≤◌, Bool, true, false, ◌&&◌, ◌==◌, if◌then◌else◌, List, [], Option, Some, None, length, slice_get, pos}
+use Rattle.std.specs.Prelude.{◌≡◌, ◌≢◌, ℕ, ◌≤◌, Bool, true, false, ◌&&◌, ◌==◌, if◌then◌else◌, List, [], ◌∷◌, Option, Some, None, length, slice_get, pos}
 use Rattle.std.specs.List.{All}
 use Rattle.bern_base.specs.declared.axes.Axis.TheVariants.{Row}
 use Rattle.bern_base.specs.declared.job.ArrayDecl.{ArrayDecl}
@@ -14,9 +14,10 @@ use Rattle.bern_base.specs.declared.job.PlaceKind.{PlaceKind}
 use Rattle.bern_base.specs.declared.job.PlaceKind.TheVariants as kind
 use Rattle.bern_base.specs.declared.job.Product.{Product}
 use Rattle.bern_base.specs.declared.job.Ref.{Ref}
-use Rattle.bern_base.specs.declared.job.Shape.{Shape}
-use Rattle.bern_base.specs.declared.job.Shape.TheVariants as shape
+use Rattle.bern_base.specs.declared.shape.Shape.{Shape}
+use Rattle.bern_base.specs.declared.shape.Shape.TheVariants as shape
 use Rattle.bern_base.specs.declared.job.Span.{Span}
+use Rattle.bern_base.specs.declared.limits.TheConstants.{MOST_SIDE}
 use Rattle.rank_node.specs.Jobs.{variable_v, variable_w, nothing}
 use Rattle.rank_product.specs.declared.shape.ProductShape.{ProductShape}
 
@@ -112,12 +113,13 @@ place_is n extents (Some place) = is_block place.kind && extent_is n (slice_get 
 abbrev pub is_block_place : Checked → ℕ → ℕ → Bool
 is_block_place job n number = place_is n job.extents (slice_get job.places number)
 
--- the job has this one nest; all its arrays are over one extent and one block place, split by row; T and D are two
+-- the job has this one nest, and does it once; all its arrays are over one extent and one block place, split by row; T and D are two
 -- vectors of one dense level, and S is sparse
 pub record IsProduct (job : Checked) (p : ProductShape) : Type 0 where
   pub some : 1 ≤ p.size
-  pub most : p.size ≤ 4194304
+  pub most : p.size ≤ MOST_SIDE
   pub one : length job.nests ≡ 1
+  pub turns : job.turns ≡ 0 ∷ []
   pub nests : All (IsNestOf p) job.nests
   pub arrays : All (IsOver p) job.arrays
   pub place : is_block_place job p.size p.place ≡ true

@@ -7,8 +7,6 @@ mod matrices;
 mod parts;
 mod ranks;
 mod shape;
-#[cfg(test)]
-mod tests;
 
 pub use matrices::are_of_job;
 pub use ranks::product_on_ranks;

@@ -1,21 +1,19 @@
 ghost use Rattle.std.specs.Prelude.{◌≡◌, ◌<◌, ◌≤◌, length, map, slice_set, true, IfOk};
 ghost use Rattle.std.specs.List.{All, range_with_len};
 ghost use Rattle.bern_base.specs.Matrix.{IsMatrix};
-ghost use Rattle.nest_model.specs.Nests.{end_state};
+ghost use Rattle.job_model.specs.Nests.{end_state};
 ghost use Rattle.rank_scripts.specs.Scripts.{total};
 ghost use Rattle.rank_scripts.specs.Nodes.{fresh};
-ghost use Rattle.rank_model.specs.Runs.{Run, IsRun};
-ghost use Rattle.rank_model.specs.States.{end_value};
-ghost use Rattle.rank_model.specs.Letters.{scripts};
+ghost use Rattle.rank_model.specs.Products.{IsRun, Run, end_value, scripts};
 ghost use Rattle.rank_node.specs.Jobs.{is_whole};
 ghost use Rattle.rank_node.specs.NodeStates.{node_of};
-ghost use Rattle.interleave.specs.Worlds.{IsFit, IsStart, IsRank, AreAtEnd};
+ghost use Rattle.interleave.specs.Worlds.{AreAtEnd, IsRank, IsStart, IsWorld};
 ghost use Rattle.rank_product.specs.Shapes.{IsProduct};
 ghost use Rattle.rank_product.specs.Runs.{AreOfJob, block_place, first_state, run_of};
 
 use crate::parts::parts_of;
 use crate::shape::ProductShape;
-use bern_base::{Checked, Items, Matrix, NoMemory, Val};
+use bern_base::{Checked, Items, MOST_RANKS, Matrix, NoMemory, Val};
 use interleave::{World, replay};
 use placement::{Cyclic, Placement};
 use rank_node::Node;
@@ -37,8 +35,9 @@ pub fn product_on_ranks(
     requires product { IsProduct job.now product }
     requires matrices { AreOfJob job.now matrices.now }
     requires some { 1 ≤ ranks }
-    requires most { ranks ≤ 64 }
-    ensures state { IfOk result (λ p. end_state job.now (first_state matrices.now) ≡ slice_set (first_state matrices.now) product.target p.0) }
+    requires most { ranks ≤ MOST_RANKS }
+    ensures state { IfOk result (λ p.
+        end_state job.now (first_state matrices.now) ≡ slice_set (first_state matrices.now) product.target p.0) }
     ensures long { IfOk result (λ p. length p.0 ≡ product.size) }
     ensures events { IfOk result (λ p. p.1 ≡ total (scripts (run_of (is_whole job.now) product ranks matrices.now))) }
 {
@@ -59,7 +58,7 @@ fn run_through(
     requires product { IsProduct job.now product }
     requires matrices { AreOfJob job.now matrices.now }
     requires some { 1 ≤ ranks }
-    requires most { ranks ≤ 64 }
+    requires most { ranks ≤ MOST_RANKS }
     ensures values { IfOk result (λ p. p.0 ≡ map (end_value run) (range_with_len 0 product.size)) }
     ensures events { IfOk result (λ p. p.1 ≡ total (scripts run)) }
 {
@@ -82,7 +81,7 @@ fn new_nodes(
     requires product { IsProduct job.now product }
     requires matrices { AreOfJob job.now matrices.now }
     requires some { 1 ≤ ranks }
-    requires most { ranks ≤ 64 }
+    requires most { ranks ≤ MOST_RANKS }
     requires place { ⟦<Cyclic as Placement>⟧.triples place.now ≡ block_place product.size ranks }
     requires ranks { ⟦<Cyclic as Placement>⟧.ranks place.now ≡ ranks }
     ensures { IfOk result (λ nodes. IsStart (run_of (is_whole job.now) product ranks matrices.now) nodes) }
@@ -109,7 +108,7 @@ fn new_node(
     requires run { run ≡ run_of (is_whole job.now) product ranks matrices.now }
     requires product { IsProduct job.now product }
     requires matrices { AreOfJob job.now matrices.now }
-    requires most { ranks ≤ 64 }
+    requires most { ranks ≤ MOST_RANKS }
     requires place { ⟦<Cyclic as Placement>⟧.triples place.now ≡ block_place product.size ranks }
     requires ranks { ⟦<Cyclic as Placement>⟧.ranks place.now ≡ ranks }
     requires rank { rank < ranks }
@@ -120,12 +119,12 @@ fn new_node(
     Node::new(alloc, job, rank, ranks, parts)
 }
 
-/// The world of these nodes behind its last event, and how many there were.
+/// The world of these nodes after its last event, and how many there were.
 fn replayed(alloc: Global, nodes: Items<Node>, seed: u64) -> Result<(World, u64), NoMemory>
     ghost run: { Run }
     requires run { IsRun run }
     requires nodes { IsStart run nodes }
-    ensures fit { IfOk result (λ end. IsFit run end.0.nodes end.0.boxes) }
+    ensures fit { IfOk result (λ end. IsWorld run end.0) }
     ensures end { IfOk result (λ end. AreAtEnd run end.0.nodes) }
     ensures events { IfOk result (λ end. end.1 ≡ total (scripts run)) }
 {
@@ -143,7 +142,7 @@ fn gathered(
     product: ProductShape,
 ) -> Result<Items<Val>, NoMemory>
     ghost run: { Run }
-    requires fit { IsFit run world.now.nodes world.now.boxes }
+    requires fit { IsWorld run world.now }
     requires end { AreAtEnd run world.now.nodes }
     requires target { product.target ≡ run.target }
     requires place { ⟦<Cyclic as Placement>⟧.triples place.now ≡ run.place }
@@ -160,7 +159,7 @@ fn gathered(
 /// `T[i]` at the end.
 fn value_at(world: &World, place: &Cyclic, target: u32, i: u32) -> Val
     ghost run: { Run }
-    requires fit { IsFit run world.now.nodes world.now.boxes }
+    requires fit { IsWorld run world.now }
     requires end { AreAtEnd run world.now.nodes }
     requires target { target ≡ run.target }
     requires place { ⟦<Cyclic as Placement>⟧.triples place.now ≡ run.place }

@@ -1,14 +1,14 @@
-ghost use Rattle.std.specs.Prelude.{◌≡◌, ◌↔◌, IfSome, IsNone, IsTrue, Some, slice_get};
+ghost use Rattle.std.specs.Prelude.{◌≡◌, ◌↔◌, [], ◌∷◌, IfSome, IsNone, IsTrue, Some, slice_get};
 ghost use Rattle.std.specs.List.{All};
 ghost use Rattle.bern_base.specs.declared.job.Factor.TheVariants.{Read};
-ghost use Rattle.rank_node.specs.Jobs.{variable_v, variable_w, nothing};
 ghost use Rattle.rank_product.specs.Shapes.{IsNestOf, IsOver, IsProduct, IsTerm, IsWhole, cols_over, extent_is, format_is, is_block, is_block_place, is_dense_level, is_sparse, is_sparse_matrix, is_vector, source_element, stored_element, target_element};
 ghost use Rattle.rank_product.specs.Named.{shape_at, shape_of_nest, shape_of_term};
 
 use bern_base::{
-    Affine, ArrayDecl, Axis, Checked, Factor, Items, Nest, PlaceKind, Product, Ref, Shape, Span,
+    Affine, ArrayDecl, Axis, Checked, Factor, Items, MOST_SIDE, Nest, PlaceKind, Product, Ref,
+    Shape, Span,
 };
-use rank_node::array_read;
+use rank_node::{array_read, nothing, variable_v, variable_w};
 
 /// A job of one product, `T[v] += S[v, w] * D[w]` over `0..size` for both variables.
 #[derive(Clone, Copy, Debug, PartialEq, Eq)]
@@ -25,7 +25,7 @@ pub struct ProductShape {
 
 /// The product that a job does, if it is a job of one product.
 ///
-/// Such a job has one nest without guards, `T[v] += S[v, w] * D[w]` over `0..size` for both variables. Its arrays are
+/// Such a job does one nest once, without guards, `T[v] += S[v, w] * D[w]` over `0..size` for both variables. Its arrays are
 /// over that extent and one `block` place, split by row. T and D are different arrays of `row dense`, and S is one of
 /// two extents in a sparse format other than `diagonal`. It takes time linear in the arrays.
 pub fn product_shape(job: &Checked) -> Option<ProductShape>
@@ -99,7 +99,7 @@ fn is_product(job: &Checked, product: ProductShape) -> bool
     ensures { IsTrue result ↔ IsProduct job.now product }
 {
     product.size >= 1
-        && product.size <= 4_194_304
+        && product.size <= MOST_SIDE
         && product.target != product.source
         && is_vector(job, product.target)
         && is_vector(job, product.source)
@@ -107,7 +107,15 @@ fn is_product(job: &Checked, product: ProductShape) -> bool
         && is_block_place(job, product.size, product.place)
         && are_over(job.arrays.as_slice(), product)
         && job.nests.len() == 1
+        && is_done_once(&job.turns)
         && are_nests(job.nests.as_slice(), product)
+}
+
+/// Whether nest 0 is done once, and no other.
+fn is_done_once(turns: &Items<u32>) -> bool
+    ensures { IsTrue result ↔ turns.now ≡ 0 ∷ [] }
+{
+    turns.as_slice() == [0].as_slice()
 }
 
 fn are_nests(nests: &[Nest], product: ProductShape) -> bool
@@ -225,24 +233,6 @@ fn source_element(product: ProductShape) -> Ref
         row: variable_w(),
         col: nothing(),
     }
-}
-
-fn variable_v() -> Affine
-    ensures { result ≡ variable_v }
-{
-    Affine::new(0, [1, 0, 0, 0])
-}
-
-fn variable_w() -> Affine
-    ensures { result ≡ variable_w }
-{
-    Affine::new(0, [0, 1, 0, 0])
-}
-
-fn nothing() -> Affine
-    ensures { result ≡ nothing }
-{
-    Affine::new(0, [0, 0, 0, 0])
 }
 
 fn are_over(arrays: &[ArrayDecl], product: ProductShape) -> bool

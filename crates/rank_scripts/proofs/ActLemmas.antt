@@ -4,7 +4,7 @@ use Rattle.std.proofs.lemmas.List.Concat.{flat_map-append}
 use Rattle.rank_scripts.specs.Acts.{Act, Work, Post, Wait, posted_to, posts_to, works, waits, until, at_work, at_post, at_wait, at_end, receiver}
 use Rattle.rank_scripts.specs.Nodes.{IsPlace}
 
--- what acts post that stand one behind the other
+-- what acts post that stand one after the other
 pub posts_to-append : {L : Type 0} (q : ℕ) (xs ys : List (Act L)) →
     posts_to q (xs ++ ys) ≡ posts_to q xs ++ posts_to q ys
 posts_to-append q xs ys = flat_map-append (posted_to q) xs ys

@@ -10,7 +10,7 @@ use Rattle.rank_scripts.proofs.ActLemmas.{post_first}
 use Rattle.rank_scripts.proofs.PositionLemmas.{book-split, finished-rest}
 use Rattle.rank_scripts.proofs.NodeLemmas.{rest-at_post}
 
--- a front, and what stands behind it
+-- a front, and what stands after it
 pub IsFrontOf-from : {A : Type 0} (front rest whole : List A) → front ++ rest ≡ whole → IsFrontOf front whole
 IsFrontOf-from {A} front rest whole e = let P : List A → Type 0 = λ xs. take (length front) xs ≡ front in subst P e (take_at front rest (length front) refl)
 
@@ -18,14 +18,14 @@ pub IsFrontOf-split : {A : Type 0} (front whole : List A) → IsFrontOf front wh
     front ++ drop (length front) whole ≡ whole
 IsFrontOf-split front whole h = ap (λ xs. xs ++ drop (length front) whole) (sym h) ∙ take-append-drop (length front) whole
 
--- the element behind a front
+-- the element after a front
 pub IsNextOf-from : {A : Type 0} (before : List A) (letter : A) (after whole : List A) →
     before ++ letter ∷ after ≡ whole → IsNextOf whole before letter
-IsNextOf-from {A} before letter after whole e = let P : List A → Type 0 = λ xs. IsNextOf xs before letter in subst P e (behind before)
+IsNextOf-from {A} before letter after whole e = let P : List A → Type 0 = λ xs. IsNextOf xs before letter in subst P e (there before)
   where
-    behind : (xs : List A) → slice_get (xs ++ letter ∷ after) (length xs) ≡ Some letter
-    behind [] = refl
-    behind (x ∷ xs) = behind xs
+    there : (xs : List A) → slice_get (xs ++ letter ∷ after) (length xs) ≡ Some letter
+    there [] = refl
+    there (x ∷ xs) = there xs
 
 pub drop-next : {A : Type 0} (whole : List A) (n : ℕ) (letter : A) → slice_get whole n ≡ Some letter →
     drop n whole ≡ letter ∷ drop (suc n) whole

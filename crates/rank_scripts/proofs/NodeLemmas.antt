@@ -4,41 +4,41 @@ use Rattle.std.proofs.lemmas.Bool.{cond_both, cases_eq, leb-true, le-leb, eq-eqb
 use Rattle.rank_scripts.specs.Acts.{Act, Work, Post, Wait, posts_to, works, at_work, at_post, at_wait}
 use Rattle.rank_scripts.specs.Ranks.{put}
 use Rattle.rank_scripts.specs.Scripts.{Scripts, book, named}
-use Rattle.rank_scripts.specs.Nodes.{HasAllBefore, Node, has_all, behind, settle, fresh, worked, posted, took, IsPlace, NodeFit}
+use Rattle.rank_scripts.specs.Nodes.{HasAllBefore, Node, has_all, past_waits, settle, fresh, worked, posted, took, IsPlace, NodeFit}
 use Rattle.rank_scripts.proofs.RankLemmas.{put_both, all_below_at, all_below_from}
 use Rattle.rank_scripts.proofs.ActLemmas.{IsPlace-next}
 
 -- what passing a wait keeps, settling keeps
-pub behind_any : {L : Type 0} (passes : ℕ → Bool) (P : ℕ → List (Act L) → Type 0) →
+pub past_waits_any : {L : Type 0} (passes : ℕ → Bool) (P : ℕ → List (Act L) → Type 0) →
     ((m : ℕ) (acts : List (Act L)) → passes m ≡ true → P m (Wait ∷ acts) → P (suc m) acts) →
-    (m : ℕ) (acts : List (Act L)) → P m acts → P (behind passes m acts).passed (behind passes m acts).todo
-behind_any passes P next m [] here = here
-behind_any passes P next m (Work ∷ acts) here = here
-behind_any passes P next m (Post to letter ∷ acts) here = here
-behind_any passes P next m (Wait ∷ acts) here =
-    cond_both (passes m) (behind passes (suc m) acts) (record { passed = m; todo = Wait ∷ acts }) (λ at. P at.passed at.todo)
-    (λ e. behind_any passes P next (suc m) acts (next m acts e here))
+    (m : ℕ) (acts : List (Act L)) → P m acts → P (past_waits passes m acts).passed (past_waits passes m acts).todo
+past_waits_any passes P next m [] here = here
+past_waits_any passes P next m (Work ∷ acts) here = here
+past_waits_any passes P next m (Post to letter ∷ acts) here = here
+past_waits_any passes P next m (Wait ∷ acts) here =
+    cond_both (passes m) (past_waits passes (suc m) acts) (record { passed = m; todo = Wait ∷ acts }) (λ at. P at.passed at.todo)
+    (λ e. past_waits_any passes P next (suc m) acts (next m acts e here))
     (λ e. here)
 
 -- it stops only at a wait that the test does not let pass
-pub behind_stops : {L : Type 0} (passes : ℕ → Bool) (m : ℕ) (acts : List (Act L)) →
-    at_wait (behind passes m acts).todo ≡ true → passes (behind passes m acts).passed ≡ false
-behind_stops passes m [] = λ waits_here. absurd (cc)
-behind_stops passes m (Work ∷ acts) = λ waits_here. absurd (cc)
-behind_stops passes m (Post to letter ∷ acts) = λ waits_here. absurd (cc)
-behind_stops passes m (Wait ∷ acts) =
-    cond_both (passes m) (behind passes (suc m) acts) (record { passed = m; todo = Wait ∷ acts }) (λ at. at_wait at.todo ≡ true → passes at.passed ≡ false)
-    (λ e. behind_stops passes (suc m) acts)
+pub past_waits_stops : {L : Type 0} (passes : ℕ → Bool) (m : ℕ) (acts : List (Act L)) →
+    at_wait (past_waits passes m acts).todo ≡ true → passes (past_waits passes m acts).passed ≡ false
+past_waits_stops passes m [] = λ waits_here. absurd (cc)
+past_waits_stops passes m (Work ∷ acts) = λ waits_here. absurd (cc)
+past_waits_stops passes m (Post to letter ∷ acts) = λ waits_here. absurd (cc)
+past_waits_stops passes m (Wait ∷ acts) =
+    cond_both (passes m) (past_waits passes (suc m) acts) (record { passed = m; todo = Wait ∷ acts }) (λ at. at_wait at.todo ≡ true → passes at.passed ≡ false)
+    (λ e. past_waits_stops passes (suc m) acts)
     (λ e waits_here. e)
 
 -- settling does no work and posts nothing
 pub works-settle : {L : Type 0} (scripts : Scripts L) (r m : ℕ) (acts : List (Act L)) (given rest : ℕ → List L) →
     works (settle scripts r m acts given rest).todo ≡ works acts
-works-settle scripts r m acts given rest = behind_any (has_all scripts r given) (λ k todo. works todo ≡ works acts) (λ k todo e at. at) m acts refl
+works-settle scripts r m acts given rest = past_waits_any (has_all scripts r given) (λ k todo. works todo ≡ works acts) (λ k todo e at. at) m acts refl
 
 pub posts_to-settle : {L : Type 0} (scripts : Scripts L) (r m : ℕ) (acts : List (Act L)) (given rest : ℕ → List L) (q : ℕ) →
     posts_to q (settle scripts r m acts given rest).todo ≡ posts_to q acts
-posts_to-settle scripts r m acts given rest q = behind_any (has_all scripts r given) (λ k todo. posts_to q todo ≡ posts_to q acts) (λ k todo e at. at) m acts refl
+posts_to-settle scripts r m acts given rest q = past_waits_any (has_all scripts r given) (λ k todo. posts_to q todo ≡ posts_to q acts) (λ k todo e at. at) m acts refl
 
 -- a settled node is fit
 pub settle_fit : {L : Type 0} (scripts : Scripts L) (r m : ℕ) (acts : List (Act L)) (given rest : ℕ → List L) →
@@ -47,11 +47,11 @@ pub settle_fit : {L : Type 0} (scripts : Scripts L) (r m : ℕ) (acts : List (Ac
 settle_fit {L} scripts r m acts given rest place rests past =
     let passes : ℕ → Bool = has_all scripts r given in
     record {
-      place = behind_any passes (λ k todo. IsPlace (scripts.script r) k todo) (λ k todo e at. rw (← add-one k) (IsPlace-next (scripts.script r) k Wait todo at)) m acts place;
-      rests = λ q. behind_any passes (λ k todo. rest q ≡ posts_to q todo) (λ k todo e at. at) m acts (rests q);
-      past = behind_any passes (λ k todo. (j : ℕ) → j < k → passes j ≡ true)
+      place = past_waits_any passes (λ k todo. IsPlace (scripts.script r) k todo) (λ k todo e at. rw (← add-one k) (IsPlace-next (scripts.script r) k Wait todo at)) m acts place;
+      rests = λ q. past_waits_any passes (λ k todo. rest q ≡ posts_to q todo) (λ k todo e at. at) m acts (rests q);
+      past = past_waits_any passes (λ k todo. (j : ℕ) → j < k → passes j ≡ true)
           (λ k todo e at j h. elim (cases_eq j k) [ inl same ↦ rw same e | inr other ↦ at j (omega arith) ]) m acts past;
-      waiting = behind_stops passes m acts;
+      waiting = past_waits_stops passes m acts;
     }
 
 -- more letters pass each wait that fewer pass

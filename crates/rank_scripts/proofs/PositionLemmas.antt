@@ -36,13 +36,13 @@ finished-length scripts r node from closed fit ended there =
     let whole : scripts.script r ≡ fit.place.before = fit.place.split ∙ ap (λ todo. fit.place.before ++ todo) (end_first node.todo ended) ∙ append-nil fit.place.before in
     let passed : waits (scripts.script r) ≡ node.passed = ap waits whole ∙ fit.place.count in
     let same = closed.alike from r in
-    let cut = ap waits ends.split ∙ waits-append ends.before (Wait ∷ ends.behind) in
+    let cut = ap waits ends.split ∙ waits-append ends.before (Wait ∷ ends.after) in
     let last = ends.last in
     let all = fit.past m (omega arith) in
     let known : named scripts r m from ≤ length (node.given from) = leb-true _ _ (all_below_at scripts.ranks _ all from there) in
-    let before : named scripts r m from ≡ length (posts_to r ends.before) = ap (λ acts. length (posts_to r (until m acts))) ends.split ∙ ap (λ acts. length (posts_to r acts)) (until-wait ends.before ends.behind) in
+    let before : named scripts r m from ≡ length (posts_to r ends.before) = ap (λ acts. length (posts_to r (until m acts))) ends.split ∙ ap (λ acts. length (posts_to r acts)) (until-wait ends.before ends.after) in
     let posted : book scripts from r ≡ posts_to r ends.before =
-    ap (posts_to r) ends.split ∙ posts_to-append r ends.before (Wait ∷ ends.behind) ∙ rw (ends.silent r) (append-nil (posts_to r ends.before)) in
+    ap (posts_to r) ends.split ∙ posts_to-append r ends.before (Wait ∷ ends.after) ∙ rw (ends.silent r) (append-nil (posts_to r ends.before)) in
     let lengths = ap length posted in
     omega arith
 

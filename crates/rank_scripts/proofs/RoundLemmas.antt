@@ -8,7 +8,7 @@ use Rattle.std.proofs.lemmas.List.FromFn.{length-range_with_len}
 use Rattle.rank_scripts.specs.Acts.{Act, Work, Wait, posts_to, works, waits}
 use Rattle.rank_scripts.specs.Ranks.{sum_below}
 use Rattle.rank_scripts.specs.Scripts.{book, EndsPosting, IsClosed, letters, total}
-use Rattle.rank_scripts.specs.Rounds.{posts_between, acts_of_all, Round, due_of, post_due, posts_of, works_of, acts_of, scripts_of, letters_of, request_round, nest_round, nest_rounds, nest_scripts, values_due}
+use Rattle.rank_scripts.specs.Rounds.{posts_between, acts_of_all, Round, due_of, post_due, posts_of, works_of, acts_of, scripts_of, letters_of, request_round, turn_round, turn_rounds, turn_scripts, values_due}
 use Rattle.rank_scripts.proofs.RankLemmas.{sum_same, sum_change, sum_constant, sum_add}
 use Rattle.rank_scripts.proofs.ActLemmas.{posts_to-append, works-append, waits-append}
 
@@ -80,7 +80,7 @@ posts_to-round {L} ranks p q round =
 pub waits-round : {L : Type 0} (ranks p : ℕ) (round : Round L) → waits (acts_of ranks p round) ≡ 1
 waits-round {L} ranks p round =
     let all = waits-append (posts_of ranks p round) (works_of round.inner ++ Wait ∷ works_of round.outer) in
-    let behind = waits-append (works_of {L = L} round.inner) (Wait ∷ works_of round.outer) in
+    let after = waits-append (works_of {L = L} round.inner) (Wait ∷ works_of round.outer) in
     let posts = waits-posts_between (λ q. due_of p q round) 0 ranks in
     let inner = waits-works_of L round.inner in
     let outer = waits-works_of L round.outer in
@@ -90,7 +90,7 @@ pub works-round : {L : Type 0} (ranks p : ℕ) (round : Round L) →
     works (acts_of ranks p round) ≡ round.inner + round.outer
 works-round {L} ranks p round =
     let all = works-append (posts_of ranks p round) (works_of round.inner ++ Wait ∷ works_of round.outer) in
-    let behind = works-append (works_of {L = L} round.inner) (Wait ∷ works_of round.outer) in
+    let after = works-append (works_of {L = L} round.inner) (Wait ∷ works_of round.outer) in
     let posts = works-posts_between (λ q. due_of p q round) 0 ranks in
     let inner = works-works_of L round.inner in
     let outer = works-works_of L round.outer in
@@ -140,26 +140,26 @@ pub book-rounds : {L : Type 0} (ranks : ℕ) (rounds : List (Round L)) (p q : �
     book (scripts_of ranks rounds) p q ≡ letters_of p q rounds
 book-rounds ranks rounds p q there = posts_to-rounds ranks p q rounds there
 
--- the book of a pair in a run over nests
-pub letters_of-nests : {L : Type 0} (values : ℕ → ℕ → ℕ → Option L) (p q : ℕ) (nests : List ℕ) → (p ≡ q → ⊥) →
-    letters_of p q (map (nest_round values) nests) ≡ filter_map (λ nest. values nest p q) nests
-letters_of-nests values p q [] other = refl
-letters_of-nests values p q (nest ∷ nests) other = rw (ne_eqb p q other, letters_of-nests values p q nests other) refl
+-- the book of a pair in a run over turns
+pub letters_of-turns : {L : Type 0} (values : ℕ → ℕ → ℕ → Option L) (p q : ℕ) (turns : List ℕ) → (p ≡ q → ⊥) →
+    letters_of p q (map (turn_round values) turns) ≡ filter_map (λ turn. values turn p q) turns
+letters_of-turns values p q [] other = refl
+letters_of-turns values p q (turn ∷ turns) other = rw (ne_eqb p q other, letters_of-turns values p q turns other) refl
 
-pub book-nests : {L : Type 0} (ranks nests : ℕ) (request : ℕ → ℕ → L) (values : ℕ → ℕ → ℕ → Option L) (p q : ℕ) →
+pub book-turns : {L : Type 0} (ranks turns : ℕ) (request : ℕ → ℕ → L) (values : ℕ → ℕ → ℕ → Option L) (p q : ℕ) →
     q < ranks → (p ≡ q → ⊥) →
-    book (nest_scripts ranks nests request values) p q ≡ request p q ∷ filter_map (λ nest. values nest p q) (range_with_len 0 nests)
-book-nests ranks nests request values p q there other =
-    book-rounds ranks (nest_rounds nests request values) p q there ∙
-    rw (ne_eqb p q other, letters_of-nests values p q (range_with_len 0 nests) other) refl
+    book (turn_scripts ranks turns request values) p q ≡ request p q ∷ filter_map (λ turn. values turn p q) (range_with_len 0 turns)
+book-turns ranks turns request values p q there other =
+    book-rounds ranks (turn_rounds turns request values) p q there ∙
+    rw (ne_eqb p q other, letters_of-turns values p q (range_with_len 0 turns) other) refl
 
 -- rounds are closed, once there is one
 pub EndsPosting-append : {L : Type 0} (xs ys : List (Act L)) → EndsPosting ys → EndsPosting (xs ++ ys)
 EndsPosting-append xs ys ends =
     record {
       before = xs ++ ends.before;
-      behind = ends.behind;
-      split = ap (λ zs. xs ++ zs) ends.split ∙ sym (append_assoc xs ends.before (Wait ∷ ends.behind));
+      after = ends.after;
+      split = ap (λ zs. xs ++ zs) ends.split ∙ sym (append_assoc xs ends.before (Wait ∷ ends.after));
       last = ends.last;
       silent = ends.silent;
     }
@@ -168,7 +168,7 @@ pub EndsPosting-round : {L : Type 0} (ranks p : ℕ) (round : Round L) → EndsP
 EndsPosting-round {L} ranks p round =
     record {
       before = posts_of ranks p round ++ works_of round.inner;
-      behind = works_of round.outer;
+      after = works_of round.outer;
       split = sym (append_assoc (posts_of ranks p round) (works_of round.inner) (Wait ∷ works_of round.outer));
       last = waits-works_of L round.outer;
       silent = λ q. posts_to-works_of L q round.outer;
@@ -197,26 +197,26 @@ total-rounds {L} ranks rounds =
     let same = sum_constant ranks (1 + sum_by (λ (round : Round L). round.inner + round.outer) rounds) in
     omega arith
 
-pub works-nests : {L : Type 0} (values : ℕ → ℕ → ℕ → Option L) (nests : List ℕ) →
-    sum_by (λ (round : Round L). round.inner + round.outer) (map (nest_round values) nests) ≡ 2 * length nests
-works-nests values [] = refl
-works-nests {L} values (nest ∷ nests) =
-    let rest = works-nests values nests in
-    let sum = sum_by-cons (λ (round : Round L). round.inner + round.outer) (nest_round values nest) (map (nest_round values) nests) in
+pub works-turns : {L : Type 0} (values : ℕ → ℕ → ℕ → Option L) (turns : List ℕ) →
+    sum_by (λ (round : Round L). round.inner + round.outer) (map (turn_round values) turns) ≡ 2 * length turns
+works-turns values [] = refl
+works-turns {L} values (turn ∷ turns) =
+    let rest = works-turns values turns in
+    let sum = sum_by-cons (λ (round : Round L). round.inner + round.outer) (turn_round values turn) (map (turn_round values) turns) in
     omega arith
 
-pub total-nests : {L : Type 0} (ranks nests : ℕ) (request : ℕ → ℕ → L) (values : ℕ → ℕ → ℕ → Option L) →
-    total (nest_scripts ranks nests request values) ≡ ranks * (1 + 2 * nests) + 2 * letters (nest_scripts ranks nests request values)
-total-nests {L} ranks nests request values =
-    let rest = works-nests values (range_with_len 0 nests) in
-    let count = length-range_with_len 0 nests in
-    let sum = sum_by-cons (λ (round : Round L). round.inner + round.outer) (request_round request) (map (nest_round values) (range_with_len 0 nests)) in
-    let works_each : sum_by (λ (round : Round L). round.inner + round.outer) (nest_rounds nests request values) ≡ 2 * nests = omega arith in
-    total-rounds ranks (nest_rounds nests request values) ∙ rw works_each refl
+pub total-turns : {L : Type 0} (ranks turns : ℕ) (request : ℕ → ℕ → L) (values : ℕ → ℕ → ℕ → Option L) →
+    total (turn_scripts ranks turns request values) ≡ ranks * (1 + 2 * turns) + 2 * letters (turn_scripts ranks turns request values)
+total-turns {L} ranks turns request values =
+    let rest = works-turns values (range_with_len 0 turns) in
+    let count = length-range_with_len 0 turns in
+    let sum = sum_by-cons (λ (round : Round L). round.inner + round.outer) (request_round request) (map (turn_round values) (range_with_len 0 turns)) in
+    let works_each : sum_by (λ (round : Round L). round.inner + round.outer) (turn_rounds turns request values) ≡ 2 * turns = omega arith in
+    total-rounds ranks (turn_rounds turns request values) ∙ rw works_each refl
 
-pub IsClosed-nests : {L : Type 0} (ranks nests : ℕ) (request : ℕ → ℕ → L) (values : ℕ → ℕ → ℕ → Option L) →
-    IsClosed (nest_scripts ranks nests request values)
-IsClosed-nests ranks nests request values = IsClosed-rounds ranks (request_round request) (map (nest_round values) (range_with_len 0 nests))
+pub IsClosed-turns : {L : Type 0} (ranks turns : ℕ) (request : ℕ → ℕ → L) (values : ℕ → ℕ → ℕ → Option L) →
+    IsClosed (turn_scripts ranks turns request values)
+IsClosed-turns ranks turns request values = IsClosed-rounds ranks (request_round request) (map (turn_round values) (range_with_len 0 turns))
 
 -- a rank posts nothing to itself
 pub letters_of-own : {L : Type 0} (p : ℕ) (rounds : List (Round L)) → letters_of p p rounds ≡ []
@@ -230,17 +230,17 @@ book-own ranks p rounds =
       | inr past ↦ posts_to-rounds_past ranks p p rounds past
     ]
 
--- how many letters there are in a run over nests: each pair's Request, and the values that are due
-pub length-book_nests : {L : Type 0} (ranks nests : ℕ) (request : ℕ → ℕ → L) (values : ℕ → ℕ → ℕ → Option L) (p q : ℕ) →
+-- how many letters there are in a run over turns: each pair's Request, and the values that are due
+pub length-book_turns : {L : Type 0} (ranks turns : ℕ) (request : ℕ → ℕ → L) (values : ℕ → ℕ → ℕ → Option L) (p q : ℕ) →
     q < ranks →
-    length (book (nest_scripts ranks nests request values) p q) ≡ cond (p == q) 0 1 + cond (p == q) 0 (length (filter_map (λ nest. values nest p q) (range_with_len 0 nests)))
-length-book_nests ranks nests request values p q there =
+    length (book (turn_scripts ranks turns request values) p q) ≡ cond (p == q) 0 1 + cond (p == q) 0 (length (filter_map (λ turn. values turn p q) (range_with_len 0 turns)))
+length-book_turns ranks turns request values p q there =
     elim (cases_eq p q) [
       | inl same ↦
-          let none : ℕ → Type 0 = λ k. length (book (nest_scripts ranks nests request values) p k) ≡ 0 in
-          rw (eq-eqb p q same) (subst none same (ap length (book-own ranks p (nest_rounds nests request values))))
+          let none : ℕ → Type 0 = λ k. length (book (turn_scripts ranks turns request values) p k) ≡ 0 in
+          rw (eq-eqb p q same) (subst none same (ap length (book-own ranks p (turn_rounds turns request values))))
       | inr other ↦
-          let all = ap length (book-nests ranks nests request values p q there other) in
+          let all = ap length (book-turns ranks turns request values p q there other) in
           rw (ne_eqb p q other) (omega arith)
     ]
 
@@ -252,12 +252,12 @@ sum-others ranks p there =
     let ones = sum_constant ranks 1 in
     omega arith
 
-pub letters-nests : {L : Type 0} (ranks nests : ℕ) (request : ℕ → ℕ → L) (values : ℕ → ℕ → ℕ → Option L) →
-    letters (nest_scripts ranks nests request values) ≡ ranks * (ranks - 1) + values_due ranks nests values
-letters-nests ranks nests request values =
-    let due = λ (p q : ℕ). cond (p == q) 0 (length (filter_map (λ nest. values nest p q) (range_with_len 0 nests))) in
-    let each = sum_same ranks (λ p. sum_below ranks (λ q. length (book (nest_scripts ranks nests request values) p q))) (λ p. (ranks - 1) + sum_below ranks (due p))
+pub letters-turns : {L : Type 0} (ranks turns : ℕ) (request : ℕ → ℕ → L) (values : ℕ → ℕ → ℕ → Option L) →
+    letters (turn_scripts ranks turns request values) ≡ ranks * (ranks - 1) + values_due ranks turns values
+letters-turns ranks turns request values =
+    let due = λ (p q : ℕ). cond (p == q) 0 (length (filter_map (λ turn. values turn p q) (range_with_len 0 turns))) in
+    let each = sum_same ranks (λ p. sum_below ranks (λ q. length (book (turn_scripts ranks turns request values) p q))) (λ p. (ranks - 1) + sum_below ranks (due p))
     (λ p h.
-    sum_same ranks _ (λ q. cond (p == q) 0 1 + due p q) (λ q l. length-book_nests ranks nests request values p q l) ∙
+    sum_same ranks _ (λ q. cond (p == q) 0 1 + due p q) (λ q l. length-book_turns ranks turns request values p q l) ∙
     sum_add ranks (λ q. cond (p == q) 0 1) (due p) ∙ rw (sum-others ranks p h) refl) in
     each ∙ sum_add ranks (λ p. ranks - 1) (λ p. sum_below ranks (due p)) ∙ rw (sum_constant ranks (ranks - 1)) refl

@@ -8,14 +8,14 @@ use Rattle.std.proofs.lemmas.List.Elements.{filter_map-append}
 use Rattle.rank_scripts.specs.Acts.{Act, Work, Post, Wait, posts_to, waits, until}
 use Rattle.rank_scripts.specs.Ranks.{all_below}
 use Rattle.rank_scripts.specs.Scripts.{named, book, IsFrontOf}
-use Rattle.rank_scripts.specs.Nodes.{HasAllBefore, Position, has_all, behind}
+use Rattle.rank_scripts.specs.Nodes.{HasAllBefore, Position, has_all, past_waits}
 use Rattle.rank_scripts.specs.Rounds.{acts_of_all, Round, due_of, posts_of, works_of, acts_of, scripts_of, letters_of, round_letter, has_round}
 use Rattle.rank_scripts.proofs.BookLemmas.{IsNextOf-from}
 use Rattle.rank_scripts.proofs.RankLemmas.{all_below_at}
 use Rattle.rank_scripts.proofs.ActLemmas.{posts_to-append, waits-append}
 use Rattle.rank_scripts.proofs.RoundLemmas.{book-rounds, posts_to-works_of, waits-works_of, waits-posts_between, posts_to-there, cons_option-append}
 
--- acts without a wait stand before every wait behind them
+-- acts without a wait stand before every wait after them
 pub until-append : {L : Type 0} (m : ℕ) (xs ys : List (Act L)) → waits xs ≡ 0 → until m (xs ++ ys) ≡ xs ++ until m ys
 until-append m [] ys none = refl
 until-append m (Work ∷ xs) ys none = ap (λ zs. Work ∷ zs) (until-append m xs ys none)
@@ -99,28 +99,28 @@ has_all-round {L} ranks rounds r given m there past =
         omega arith
 
 -- the law at every wait that a rank passes at once
-pub behind-same : {L : Type 0} (passes other : ℕ → Bool) →
+pub past_waits-same : {L : Type 0} (passes other : ℕ → Bool) →
     ((m : ℕ) → ((k : ℕ) → k < m → passes k ≡ true) → passes m ≡ other m) → (m : ℕ) (acts : List (Act L)) →
-    ((k : ℕ) → k < m → passes k ≡ true) → behind passes m acts ≡ behind other m acts
-behind-same passes other same m [] past = refl
-behind-same passes other same m (Work ∷ acts) past = refl
-behind-same passes other same m (Post to letter ∷ acts) past = refl
-behind-same {L} passes other same m (Wait ∷ acts) past =
+    ((k : ℕ) → k < m → passes k ≡ true) → past_waits passes m acts ≡ past_waits other m acts
+past_waits-same passes other same m [] past = refl
+past_waits-same passes other same m (Work ∷ acts) past = refl
+past_waits-same passes other same m (Post to letter ∷ acts) past = refl
+past_waits-same {L} passes other same m (Wait ∷ acts) past =
     let stay : Position L = record { passed = m; todo = Wait ∷ acts } in
     rw (← same m past)
-    (cond_both (passes m) (behind passes (suc m) acts) stay (λ at. at ≡ cond (passes m) (behind other (suc m) acts) stay)
-    (λ e. rw e (behind-same passes other same (suc m) acts (λ k h. elim (cases_eq k m) [ inl here ↦ rw here e | inr other ↦ past k (omega arith) ])))
+    (cond_both (passes m) (past_waits passes (suc m) acts) stay (λ at. at ≡ cond (passes m) (past_waits other (suc m) acts) stay)
+    (λ e. rw e (past_waits-same passes other same (suc m) acts (λ k h. elim (cases_eq k m) [ inl here ↦ rw here e | inr other ↦ past k (omega arith) ])))
     (λ e. rw e refl))
 
-pub behind-round : {L : Type 0} (ranks : ℕ) (rounds : List (Round L)) (r : ℕ) (given : ℕ → List L) (m : ℕ) (acts : List (Act L)) →
+pub past_waits-round : {L : Type 0} (ranks : ℕ) (rounds : List (Round L)) (r : ℕ) (given : ℕ → List L) (m : ℕ) (acts : List (Act L)) →
     r < ranks → HasAllBefore (scripts_of ranks rounds) r given m →
-    behind (has_all (scripts_of ranks rounds) r given) m acts ≡ behind (has_round ranks rounds r given) m acts
-behind-round ranks rounds r given m acts there past =
-    behind-same (has_all (scripts_of ranks rounds) r given) (has_round ranks rounds r given)
+    past_waits (has_all (scripts_of ranks rounds) r given) m acts ≡ past_waits (has_round ranks rounds r given) m acts
+past_waits-round ranks rounds r given m acts there past =
+    past_waits-same (has_all (scripts_of ranks rounds) r given) (has_round ranks rounds r given)
     (λ k earlier. has_all-round ranks rounds r given k there earlier) m acts past
 
 -- a rank that has passed the wait of round m was given the letter of that round from each rank that had one due: it
--- stands behind the letters of the earlier rounds
+-- stands after the letters of the earlier rounds
 pub slice_get-take : {A : Type 0} (n : ℕ) (xs : List A) (i : ℕ) → i < n → slice_get (take n xs) i ≡ slice_get xs i
 slice_get-take zero xs i h = absurd (omega arith)
 slice_get-take (suc n) [] i h = refl

@@ -1,13 +1,13 @@
--- A run by hand: two ranks, one nest, and each has one letter of values for the other. The letters are numbers here.
+-- A run by hand: two ranks, one turn, and each has one letter of values for the other. The letters are numbers here.
 use Rattle.std.specs.Prelude.{◌≡◌, ℕ, List, [], ◌∷◌, Some}
 use Rattle.rank_scripts.specs.Acts.{Work, Wait}
 use Rattle.rank_scripts.specs.Scripts.{Scripts}
 use Rattle.rank_scripts.specs.Worlds.{World, Event, Works, Posts, Takes}
-use Rattle.rank_scripts.specs.Rounds.{nest_scripts}
+use Rattle.rank_scripts.specs.Rounds.{turn_scripts}
 
 -- 0 asks for values, and 1 has them
 abbrev pub two_ranks : Scripts ℕ
-two_ranks = nest_scripts 2 1 (λ p q. 0) (λ nest p q. Some 1)
+two_ranks = turn_scripts 2 1 (λ p q. 0) (λ turn p q. Some 1)
 
 -- rank 0 goes ahead as far as it can, and then rank 1
 abbrev pub two_ranks_events : List Event

@@ -24,19 +24,19 @@ has_all scripts r given m = all_below scripts.ranks (λ q. nat_le (named scripts
 abbrev pub HasAllBefore : {L : Type 0} → Scripts L → ℕ → (ℕ → List L) → ℕ → Type 0
 HasAllBefore scripts r given m = (k : ℕ) → k < m → has_all scripts r given k ≡ true
 
--- goes on behind each wait that the test lets pass
-abbrev pub behind : {L : Type 0} → (ℕ → Bool) → ℕ → List (Act L) → Position L
-behind passes m [] = record { passed = m; todo = [] }
-behind passes m (Work ∷ acts) = record { passed = m; todo = Work ∷ acts }
-behind passes m (Post to letter ∷ acts) = record { passed = m; todo = Post to letter ∷ acts }
-behind passes m (Wait ∷ acts) = if passes m then behind passes (suc m) acts else record { passed = m; todo = Wait ∷ acts }
+-- where a rank stands that has gone past each wait that the test lets pass
+abbrev pub past_waits : {L : Type 0} → (ℕ → Bool) → ℕ → List (Act L) → Position L
+past_waits passes m [] = record { passed = m; todo = [] }
+past_waits passes m (Work ∷ acts) = record { passed = m; todo = Work ∷ acts }
+past_waits passes m (Post to letter ∷ acts) = record { passed = m; todo = Post to letter ∷ acts }
+past_waits passes m (Wait ∷ acts) = if passes m then past_waits passes (suc m) acts else record { passed = m; todo = Wait ∷ acts }
 
 -- the node that has passed each wait whose letters it was given
 abbrev pub settle : {L : Type 0} → Scripts L → ℕ → ℕ → List (Act L) → (ℕ → List L) → (ℕ → List L) → Node L
 settle scripts r m acts given rest =
     record {
-      passed = (behind (has_all scripts r given) m acts).passed;
-      todo = (behind (has_all scripts r given) m acts).todo;
+      passed = (past_waits (has_all scripts r given) m acts).passed;
+      todo = (past_waits (has_all scripts r given) m acts).todo;
       given = given;
       rest = rest;
     }
@@ -76,7 +76,7 @@ pub record NodeFit {L : Type 0} (scripts : Scripts L) (r : ℕ) (node : Node L) 
   pub place : IsPlace (scripts.script r) node.passed node.todo
   -- what it has still to post is what its position posts
   pub rests : (q : ℕ) → node.rest q ≡ posts_to q node.todo
-  -- it was given what the waits behind it name
+  -- it was given what the waits that it has passed name
   pub past : HasAllBefore scripts r node.given node.passed
   -- it was not given all that the wait at which it stands names
   pub waiting : at_wait node.todo ≡ true → has_all scripts r node.given node.passed ≡ false

@@ -13,13 +13,13 @@ pub record Finishes {L : Type 0} (scripts : Scripts L) (w : World L) : Type 0 wh
   pub events : List Event
   pub ends : done scripts (run scripts w events) ≡ true
 
--- rank r's post puts in flight the next letter of its book, behind all that it has posted before
+-- rank r's post puts in flight the next letter of its book, after all that it has posted before
 pub record PostsNext {L : Type 0} (scripts : Scripts L) (w : World L) (r to : ℕ) : Type 0 where
   pub letter : L
   pub next : IsNextOf (book scripts r to) ((w.node to).given r ++ w.flight r to) letter
   pub flight : (happens scripts w (Posts r)).flight r to ≡ w.flight r to ++ letter ∷ []
 
--- rank r's take gives it the next letter of the sender's book, behind all that it was given before
+-- rank r's take gives it the next letter of the sender's book, after all that it was given before
 pub record TakesNext {L : Type 0} (scripts : Scripts L) (w : World L) (r from : ℕ) : Type 0 where
   pub letter : L
   pub next : IsNextOf (book scripts from r) ((w.node r).given from) letter

@@ -6,7 +6,7 @@ use Rattle.rank_scripts.specs.Acts.{Act, Work, Post, Wait}
 use Rattle.rank_scripts.specs.Ranks.{all_below, sum_below}
 use Rattle.rank_scripts.specs.Scripts.{Scripts}
 
--- which letter is due from one rank to another, if one is, and how many works stand before the wait and behind it
+-- which letter is due from one rank to another, if one is, and how many works stand before the wait and after it
 pub record Round (L : Type 0) : Type 0 where
   pub due : ℕ → ℕ → Option L
   pub inner : ℕ
@@ -50,25 +50,25 @@ scripts_of ranks rounds = record { ranks = ranks; script = λ p. Work ∷ acts_o
 abbrev pub letters_of : {L : Type 0} → ℕ → ℕ → List (Round L) → List L
 letters_of p q rounds = filter_map (due_of p q) rounds
 
--- the rounds of a run over nests: each rank requests of each other one what it will need, and then each nest has a
--- round with the values that are due, one work before the wait and one behind it
+-- the rounds of a run: each rank requests of each other one what it will need, once, and then each turn (one execution of
+-- a nest) has a round with the values that are due, one work before the wait and one after it
 abbrev pub request_round : {L : Type 0} → (ℕ → ℕ → L) → Round L
 request_round request = record { due = λ p q. Some (request p q); inner = 0; outer = 0 }
 
-abbrev pub nest_round : {L : Type 0} → (ℕ → ℕ → ℕ → Option L) → ℕ → Round L
-nest_round values nest = record { due = values nest; inner = 1; outer = 1 }
+abbrev pub turn_round : {L : Type 0} → (ℕ → ℕ → ℕ → Option L) → ℕ → Round L
+turn_round values turn = record { due = values turn; inner = 1; outer = 1 }
 
-abbrev pub nest_rounds : {L : Type 0} → ℕ → (ℕ → ℕ → L) → (ℕ → ℕ → ℕ → Option L) → List (Round L)
-nest_rounds nests request values = request_round request ∷ map (nest_round values) (range_with_len 0 nests)
+abbrev pub turn_rounds : {L : Type 0} → ℕ → (ℕ → ℕ → L) → (ℕ → ℕ → ℕ → Option L) → List (Round L)
+turn_rounds turns request values = request_round request ∷ map (turn_round values) (range_with_len 0 turns)
 
-abbrev pub nest_scripts : {L : Type 0} → ℕ → ℕ → (ℕ → ℕ → L) → (ℕ → ℕ → ℕ → Option L) → Scripts L
-nest_scripts ranks nests request values = scripts_of ranks (nest_rounds nests request values)
+abbrev pub turn_scripts : {L : Type 0} → ℕ → ℕ → (ℕ → ℕ → L) → (ℕ → ℕ → ℕ → Option L) → Scripts L
+turn_scripts ranks turns request values = scripts_of ranks (turn_rounds turns request values)
 
--- how many Values letters are due in all nests
+-- how many Values letters are due in all turns
 abbrev pub values_due : {L : Type 0} → ℕ → ℕ → (ℕ → ℕ → ℕ → Option L) → ℕ
-values_due ranks nests values =
+values_due ranks turns values =
     sum_below ranks (λ p. sum_below ranks (λ q.
-    if p == q then 0 else length (filter_map (λ nest. values nest p q) (range_with_len 0 nests))))
+    if p == q then 0 else length (filter_map (λ turn. values turn p q) (range_with_len 0 turns))))
 
 -- the letter from q to r that is due in round m
 abbrev pub round_letter : {L : Type 0} → List (Round L) → ℕ → ℕ → ℕ → Option L

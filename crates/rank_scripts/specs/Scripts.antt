@@ -16,7 +16,7 @@ book scripts p q = posts_to q (scripts.script p)
 abbrev pub IsFrontOf : {L : Type 0} → List L → List L → Type 0
 IsFrontOf front book = take (length front) book ≡ front
 
--- the letter stands in the book right behind these
+-- the letter stands in the book right after these
 abbrev pub IsNextOf : {L : Type 0} → List L → List L → L → Type 0
 IsNextOf book before letter = slice_get book (length before) ≡ Some letter
 
@@ -25,13 +25,13 @@ IsNextOf book before letter = slice_get book (length before) ≡ Some letter
 abbrev pub named : {L : Type 0} → Scripts L → ℕ → ℕ → ℕ → ℕ
 named scripts r m q = length (posts_to r (until m (scripts.script q)))
 
--- nothing is posted behind the last wait, so a rank that has passed its waits has posted its letters
+-- nothing is posted after the last wait, so a rank that has passed its waits has posted its letters
 pub record EndsPosting {L : Type 0} (acts : List (Act L)) : Type 0 where
   pub before : List (Act L)
-  pub behind : List (Act L)
-  pub split : acts ≡ before ++ Wait ∷ behind
-  pub last : waits behind ≡ 0
-  pub silent : (q : ℕ) → posts_to q behind ≡ []
+  pub after : List (Act L)
+  pub split : acts ≡ before ++ Wait ∷ after
+  pub last : waits after ≡ 0
+  pub silent : (q : ℕ) → posts_to q after ≡ []
 
 -- every letter goes to a rank that is there and is named by a wait of that rank
 pub record IsClosed {L : Type 0} (scripts : Scripts L) : Type 0 where

@@ -44,7 +44,7 @@ pub returns-then-number-least : goal.returns-then-number-least
 returns-then-number-least c = (
   λ t. cc,
   λ m. absurd (no_rise c.args.matrix.now.cols c.as_slice-entry-items.result.now c.loop-entry.entry-index c.loop-entry.least c.entry-item.result
-      c.loop-entry.invariant.start c.loop-entry.invariant.last (rw (sym c.number_of-number.ensures) c.if-number-least.true) c.entry-item.is c.loop-entry-test.true
+      c.loop-entry.invariant.start c.loop-entry.invariant.last (rw (sym c.number-number.ensures) c.if-number-least.true) c.entry-item.is c.loop-entry-test.true
       (rw c.as_slice-entry-items.ensures m.rising)),
 )
 

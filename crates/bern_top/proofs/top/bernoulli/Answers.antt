@@ -1,38 +1,43 @@
 use Rattle.std.proofs.Common.{map}
 use Rattle.std.specs.String.{string_bytes}
-use Rattle.bern_top.specs.Answers.{Port}
-use Rattle.bern_top.specs.Top.{Faults}
-use Rattle.bern_top.proofs.TopLemmas.{says_words}
+use Rattle.bern_ports.specs.Frames.{port, shelf_state}
+use Rattle.bern_top.proofs.TopLemmas.{says_fault, says_text}
 use Rattle.bern_top.proofs.top.bernoulli.Goals as goal
 
-pub returns-in-Err-clause-refused : goal.returns-in-Err-clause-refused
-returns-in-Err-clause-refused g c =
+pub returns-in-Ok : goal.returns-in-Ok
+returns-in-Ok g c =
     let s = g.F.Shelf in
     let k = g.S.Sink in
-    let calm : Faults = record { total = s.faults c.args.shelf.now; by_name = s.faults_on c.args.shelf.now; sure = s.sure c.args.shelf.now } in
-    let err : Port = record { old = k.written c.args.err.now; new = k.written c.refuse_words.new.err; before = k.faults c.args.err.now; now = k.faults c.refuse_words.new.err } in
-    (says_words (s.files c.args.shelf.now) (map string_bytes c.args.words.now) calm calm (k.written c.args.out.now) (k.faults c.args.out.now) err c.refuse_words.result c.in-Err.rule c.in-Err.ensures.refused c.refuse_words.ensures.status c.refuse_words.ensures.line).refused
+    let says = says_text (map string_bytes c.args.words.now) (shelf_state s c.args.shelf.now) (shelf_state s c.text_of_words.new.shelf) (port k c.args.out.now c.print.new.out) (port k c.args.err.now c.print.new.err) c.print.result c.in-Ok.text
+    c.in-Ok.ensures.words c.in-Ok.ensures.told c.print.ensures in
+    record {
+      status = says.known;
+      keeps = c.in-Ok.ensures.keeps;
+      done = says.done;
+      refused = says.refused;
+      words = says.words_refused;
+      read_fault = says.read_fault;
+      write_fault = says.write_fault;
+      memory = says.memory;
+      due = says.due;
+      refusal = says.refusal;
+    }
 
-pub returns-in-Err-clause-words : goal.returns-in-Err-clause-words
-returns-in-Err-clause-words g c =
+pub returns-in-Err : goal.returns-in-Err
+returns-in-Err g c =
     let s = g.F.Shelf in
     let k = g.S.Sink in
-    let calm : Faults = record { total = s.faults c.args.shelf.now; by_name = s.faults_on c.args.shelf.now; sure = s.sure c.args.shelf.now } in
-    let err : Port = record { old = k.written c.args.err.now; new = k.written c.refuse_words.new.err; before = k.faults c.args.err.now; now = k.faults c.refuse_words.new.err } in
-    (says_words (s.files c.args.shelf.now) (map string_bytes c.args.words.now) calm calm (k.written c.args.out.now) (k.faults c.args.out.now) err c.refuse_words.result c.in-Err.rule c.in-Err.ensures.refused c.refuse_words.ensures.status c.refuse_words.ensures.line).words_refused
-
-pub returns-in-Err-clause-due : goal.returns-in-Err-clause-due
-returns-in-Err-clause-due g c =
-    let s = g.F.Shelf in
-    let k = g.S.Sink in
-    let calm : Faults = record { total = s.faults c.args.shelf.now; by_name = s.faults_on c.args.shelf.now; sure = s.sure c.args.shelf.now } in
-    let err : Port = record { old = k.written c.args.err.now; new = k.written c.refuse_words.new.err; before = k.faults c.args.err.now; now = k.faults c.refuse_words.new.err } in
-    (says_words (s.files c.args.shelf.now) (map string_bytes c.args.words.now) calm calm (k.written c.args.out.now) (k.faults c.args.out.now) err c.refuse_words.result c.in-Err.rule c.in-Err.ensures.refused c.refuse_words.ensures.status c.refuse_words.ensures.line).due
-
-pub returns-in-Err-clause-refusal : goal.returns-in-Err-clause-refusal
-returns-in-Err-clause-refusal g c =
-    let s = g.F.Shelf in
-    let k = g.S.Sink in
-    let calm : Faults = record { total = s.faults c.args.shelf.now; by_name = s.faults_on c.args.shelf.now; sure = s.sure c.args.shelf.now } in
-    let err : Port = record { old = k.written c.args.err.now; new = k.written c.refuse_words.new.err; before = k.faults c.args.err.now; now = k.faults c.refuse_words.new.err } in
-    (says_words (s.files c.args.shelf.now) (map string_bytes c.args.words.now) calm calm (k.written c.args.out.now) (k.faults c.args.out.now) err c.refuse_words.result c.in-Err.rule c.in-Err.ensures.refused c.refuse_words.ensures.status c.refuse_words.ensures.line).refusal
+    let says = says_fault (map string_bytes c.args.words.now) (shelf_state s c.args.shelf.now) (shelf_state s c.text_of_words.new.shelf) (k.written c.args.out.now) (k.faults c.args.out.now) (port k c.args.err.now c.tell.new.err) c.tell.result c.in-Err.fault
+    c.in-Err.ensures.words c.in-Err.ensures.told c.in-Err.ensures.cause c.tell.ensures in
+    record {
+      status = says.known;
+      keeps = c.in-Err.ensures.keeps;
+      done = says.done;
+      refused = says.refused;
+      words = says.words_refused;
+      read_fault = says.read_fault;
+      write_fault = says.write_fault;
+      memory = says.memory;
+      due = says.due;
+      refusal = says.refusal;
+    }

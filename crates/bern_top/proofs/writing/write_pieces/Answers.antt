@@ -3,8 +3,9 @@ use Rattle.std.proofs.lemmas.List.{take_more, take-append-drop}
 use Rattle.std.proofs.lemmas.Grind.{flat_map-append}
 use Rattle.std.specs.Io.KnownBytes.{Appends}
 use Rattle.std.proofs.KnownBytes.{Appends-trans}
-use Rattle.bern_top.specs.Answers.{Port, StopsWithin}
-use Rattle.bern_top.proofs.WritingLemmas.{port, stops_behind, stops_before}
+use Rattle.bern_ports.specs.Frames.{Port}
+use Rattle.bern_top.specs.Answers.{StopsWithin}
+use Rattle.bern_top.proofs.WritingLemmas.{over, stops_after, stops_before}
 use Rattle.bern_top.proofs.writing.write_pieces.Goals as goal
 
 abbrev bytes_of_piece : Bor (List ℕ) → List ℕ
@@ -36,8 +37,8 @@ returns-in-Err-clause-writes g c =
     let none : Bor (List ℕ) = record { ref_ptr = (0, 0); now = [] } in
     let pieces : List (Bor (List ℕ)) = c.args.pieces.now in
     let i : ℕ = c.loop-piece.piece-index in
-    let over : Port = port (g.S.Sink.written c.args.sink.now) (g.S.Sink.written c.write_whole.new.sink) (g.S.Sink.faults c.args.sink.now) (g.S.Sink.faults c.write_whole.new.sink) in
-    subst (StopsWithin over) (sym (all_parts pieces i none c.loop-piece-test.true))
-    (stops_before over.old over.new over.before over.now (flat_map bytes_of_piece (take i pieces) ++ bytes_of_piece (get_or pieces i none)) (flat_map bytes_of_piece (drop (i + 1) pieces))
-    (stops_behind over.old (g.S.Sink.written c.loop-piece.sink) over.new over.before (g.S.Sink.faults c.loop-piece.sink) over.now
+    let whole : Port = over (g.S.Sink.written c.args.sink.now) (g.S.Sink.written c.write_whole.new.sink) (g.S.Sink.faults c.args.sink.now) (g.S.Sink.faults c.write_whole.new.sink) in
+    subst (StopsWithin whole) (sym (all_parts pieces i none c.loop-piece-test.true))
+    (stops_before whole.old whole.new whole.before whole.now (flat_map bytes_of_piece (take i pieces) ++ bytes_of_piece (get_or pieces i none)) (flat_map bytes_of_piece (drop (i + 1) pieces))
+    (stops_after whole.old (g.S.Sink.written c.loop-piece.sink) whole.new whole.before (g.S.Sink.faults c.loop-piece.sink) whole.now
     (flat_map bytes_of_piece (take i pieces)) (bytes_of_piece (get_or pieces i none)) c.loop-piece.invariant.later c.loop-piece.invariant.wrote c.in-Err.ensures.writes))

@@ -1,6 +1,6 @@
 use Rattle.std.proofs.Common.{map}
 use Rattle.rank_scripts.proofs.WorldLemmas.{run_fit}
-use Rattle.rank_model.specs.Letters.{scripts}
+use Rattle.rank_model.specs.Products.{scripts}
 use Rattle.interleave.specs.Worlds.{event_of, world_in}
 use Rattle.interleave.proofs.laws.every_list_of_events_is_fit.Goals as goal
 

@@ -1,7 +1,5 @@
-use Rattle.std.proofs.Common.{◌≡◌, ◌<◌, ℕ, sym, ap, ◌∙◌, arith}
-use Rattle.rank_scripts.specs.Nodes.{posted}
+use Rattle.std.proofs.Common.{◌≡◌, ◌<◌, ℕ, sym, ◌∙◌, arith}
 use Rattle.rank_node.specs.NodeStates.{node_of}
-use Rattle.rank_model.specs.Letters.{scripts}
 use Rattle.interleave.proofs.WorldLemmas as l
 use Rattle.interleave.proofs.world.post_letter.Goals as goal
 
@@ -12,9 +10,6 @@ pub push-requires-clause-to : goal.push-requires-clause-to
 push-requires-clause-to g c =
     let receives = l.want_post (node_of g.run c.args.node.now).todo c.in-Post.to (sym c.in-Post.is ∙ c.want.ensures) in
     c.requires.1.1.1 c.in-Post.to (below_at receives (l.post_below g.run c.args.rank c.args.node.now c.requires.0 c.requires.1.0))
-
-pub returns-in-Ok-push-clause-moved : goal.returns-in-Ok-push-clause-moved
-returns-in-Ok-push-clause-moved g c = c.posted.ensures.moved ∙ ap (λ k. posted (scripts g.run) k (node_of g.run c.args.node.now)) c.requires.0.rank
 
 pub returns-in-Ok-push-clause-boxes : goal.returns-in-Ok-push-clause-boxes
 returns-in-Ok-push-clause-boxes g c =

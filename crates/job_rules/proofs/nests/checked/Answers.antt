@@ -5,4 +5,4 @@ use Rattle.job_rules.proofs.nests.checked.Goals as goal
 
 pub numbered-requires-clause-near : goal.numbered-requires-clause-near
 numbered-requires-clause-near c =
-    near_bounds _ c.args.nest.now (ap (λ w. is_too_wide (ranges_of w) w) (sym c.in_ok-wide.ensures) ∙ c.in_ok-try_rules.ensures.near)
+    near_bounds _ c.args.nest.now (ap (λ w. is_too_wide (ranges_of w) w) (sym c.in_ok-resolved.ensures) ∙ c.in_ok-try_rules.ensures.near)

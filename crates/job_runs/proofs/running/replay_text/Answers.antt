@@ -1,6 +1,6 @@
 use Rattle.std.proofs.Common.{◌++◌, ap, ◌∙◌}
 use Rattle.job_runs.proofs.PrintLemmas.{replayed_arrays, replayed_text}
-use Rattle.nest_model.specs.Nests.{end_state}
+use Rattle.job_model.specs.Nests.{end_state}
 use Rattle.rank_product.specs.Runs.{first_state}
 use Rattle.job_runs.specs.Texts.{arrays_text, events_text}
 use Rattle.job_runs.proofs.running.replay_text.Goals as goal

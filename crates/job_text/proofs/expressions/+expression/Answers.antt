@@ -2,7 +2,7 @@ use Rattle.std.proofs.Common.{◌≡◌, ◌≢◌, ℕ, zero, suc, ◌-◌, Som
 use Rattle.std.proofs.lemmas.Result.{err_from_is_err_and}
 use Rattle.bern_base.specs.declared.raw.RawExpr.{roll-RawExpr}
 use Rattle.job_text.specs.declared.tokens.Token.{Token}
-use Rattle.job_text.specs.Reading.{seen, behind}
+use Rattle.job_text.specs.Reading.{seen, following}
 use Rattle.job_text.specs.NestReading.{expr_at, product_at, products_at, factor_at, factors_at, starred_at, first_sign, sign_at, star_at}
 use Rattle.job_text.proofs.ListLemmas.{carries_first, carries_fail, carries_end, carries_on}
 use Rattle.job_text.proofs.StopLemmas.{gives_err}
@@ -45,7 +45,7 @@ factors-loop-factors-preserved t c =
     record {
       carries = λ n below. rw c.in_ok-factors-in-Some.ensures (carries_on (starred_at (expr_at n c.args.levels)) star_at c.loop-factors.factors tt c.loop-factors.rest.now
           (factors_at (expr_at n c.args.levels) n c.args.tokens.now) (c.loop-factors.invariant.carries n below) tt c.in_ok-factor.after.now c.in-Some.next.now c.in_ok-factor.factor
-          (c.in_ok-factor.ensures.value n (omega arith)) (sym c.next_star.ensures.value ∙ ap (option_map behind) c.in-Some.is) (omega arith));
+          (c.in_ok-factor.ensures.value n (omega arith)) (sym c.next_star.ensures.value ∙ ap (option_map following) c.in-Some.is) (omega arith));
       within = omega arith;
     }
 
@@ -53,7 +53,7 @@ pub factors-returns-in-None-clause-value : goal.factors-returns-in-None-clause-v
 factors-returns-in-None-clause-value t c = λ n below.
     let within = c.loop-factors.invariant.within in
     carries_end (starred_at (expr_at n c.args.levels)) star_at c.loop-factors.factors tt c.loop-factors.rest.now (factors_at (expr_at n c.args.levels) n c.args.tokens.now) (c.loop-factors.invariant.carries n below)
-    c.in_ok-factor.after.now c.in_ok-factor.factor (c.in_ok-factor.ensures.value n (omega arith)) (sym c.next_star.ensures.value ∙ ap (option_map behind) c.in-None.is)
+    c.in_ok-factor.after.now c.in_ok-factor.factor (c.in_ok-factor.ensures.value n (omega arith)) (sym c.next_star.ensures.value ∙ ap (option_map following) c.in-None.is)
     ∙ ap (λ items. Some (items, c.in_ok-factor.after.now)) (sym c.in_ok-with_last-in-None.ensures)
 
 pub products-loop-products-init : goal.products-loop-products-init

@@ -20,11 +20,12 @@ returns-in-Err-NoForm c =
     let all = numbered 1 texts in
     let here = drop_at texts i line c.loop-line-test.true c.line-item.is in
     let left : Carries all c.loop-line.number (line ∷ drop (i + 1) texts) c.loop-line.forms = subst (λ l. Carries all c.loop-line.number l c.loop-line.forms) here c.loop-line.invariant.reads in
+    let same_forms = c.in-Err-NoForm.ensures.same (ap Err c.in-Err-NoForm.field-0-is) in
     let none = c.in-Err-NoForm.ensures.none (ap Err c.in-Err-NoForm.field-0-is) in
     let said_is = ap said c.bytes.ensures in
-    let read = carries_broken all c.loop-line.number line (drop (i + 1) texts) c.loop-line.forms left (subst (λ t. is_some_text t ≡ true) said_is none.1) (subst HasNoForm said_is none.2) in
+    let read = carries_broken all c.loop-line.number line (drop (i + 1) texts) c.loop-line.forms left (subst (λ t. is_some_text t ≡ true) said_is none.0) (subst HasNoForm said_is none.1) in
     let same = c.deref-line-items.ensures.value ∙ c.in_ok-texts.ensures in
-    rw none.0 (subst (λ ts. IsRead (numbered 1 ts) c.loop-line.forms (Some c.loop-line.number)) same read)
+    rw same_forms (subst (λ ts. IsRead (numbered 1 ts) c.loop-line.forms (Some c.loop-line.number)) same read)
 
 pub loop-line-preserved : goal.loop-line-preserved
 loop-line-preserved c =

@@ -1,6 +1,6 @@
 use Rattle.std.proofs.Common.{Some, option_map, sym, ap, ◌∙◌, arith}
 use Rattle.std.proofs.lemmas.Result.{err_from_is_err_and}
-use Rattle.job_text.specs.Reading.{seen, behind}
+use Rattle.job_text.specs.Reading.{seen, following}
 use Rattle.job_text.specs.NestReading.{guard_at, comma_at, guards_from}
 use Rattle.job_text.proofs.ListLemmas.{carries_first, carries_fail, carries_end, carries_on}
 use Rattle.job_text.proofs.StopLemmas.{gives_err}
@@ -26,12 +26,12 @@ loop-guards-preserved c =
     record {
       carries = λ n below. rw c.in_ok-guards-in-Some.ensures (carries_on guard_at comma_at c.loop-guards.guards tt c.loop-guards.rest.now
           (guards_from n c.args.tokens.now) (c.loop-guards.invariant.carries n below) tt c.in_ok-guard.after.now c.in-Some.next.now c.in_ok-guard.guard
-          c.in_ok-guard.ensures.value (sym c.next_comma.ensures.value ∙ ap (option_map behind) c.in-Some.is) (omega arith));
+          c.in_ok-guard.ensures.value (sym c.next_comma.ensures.value ∙ ap (option_map following) c.in-Some.is) (omega arith));
       within = omega arith;
     }
 
 pub returns-in-None-clause-value : goal.returns-in-None-clause-value
 returns-in-None-clause-value c = λ n below.
     carries_end guard_at comma_at c.loop-guards.guards tt c.loop-guards.rest.now (guards_from n c.args.tokens.now) (c.loop-guards.invariant.carries n below)
-    c.in_ok-guard.after.now c.in_ok-guard.guard c.in_ok-guard.ensures.value (sym c.next_comma.ensures.value ∙ ap (option_map behind) c.in-None.is)
+    c.in_ok-guard.after.now c.in_ok-guard.guard c.in_ok-guard.ensures.value (sym c.next_comma.ensures.value ∙ ap (option_map following) c.in-None.is)
     ∙ ap (λ items. Some (items, c.in_ok-guard.after.now)) (sym c.in_ok-with_last-in-None.ensures)

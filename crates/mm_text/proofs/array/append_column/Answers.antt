@@ -1,6 +1,6 @@
 use Rattle.std.proofs.Common.{◌≡◌, ℕ, ◌+◌, ◌*◌, ◌<◌, length, get_or, rules}
 use Rattle.std.proofs.lemmas.List.{get_or_read}
-use Rattle.dense_model.specs.ArrayText.{element_line}
+use Rattle.mm_profile.specs.ArrayText.{element_line}
 use Rattle.mm_text.proofs.AppendLemmas.{flat_map_range_more}
 use Rattle.mm_text.proofs.array.append_column.Goals as goal
 

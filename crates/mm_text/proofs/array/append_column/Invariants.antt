@@ -1,6 +1,6 @@
 use Rattle.std.proofs.Common.{◌≡◌, ◌++◌}
 use Rattle.std.specs.List.{flat_map, range_with_len}
-use Rattle.dense_model.specs.ArrayText.{element_line}
+use Rattle.mm_profile.specs.ArrayText.{element_line}
 use Rattle.mm_text.proofs.array.append_column.Given as goal
 
 abbrev pub invariant-loop-row : goal.invariant-loop-row

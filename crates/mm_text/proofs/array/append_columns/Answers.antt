@@ -1,4 +1,4 @@
-use Rattle.dense_model.specs.ArrayText.{column_text}
+use Rattle.mm_profile.specs.ArrayText.{column_text}
 use Rattle.mm_text.proofs.AppendLemmas.{flat_map_range_more}
 use Rattle.mm_text.proofs.array.append_columns.Goals as goal
 

@@ -1,6 +1,6 @@
 use Rattle.std.proofs.Common.{◌≡◌, ◌++◌}
 use Rattle.std.specs.List.{flat_map, range_with_len}
-use Rattle.dense_model.specs.ArrayText.{column_text}
+use Rattle.mm_profile.specs.ArrayText.{column_text}
 use Rattle.mm_text.proofs.array.append_columns.Given as goal
 
 abbrev pub invariant-loop-col : goal.invariant-loop-col

@@ -1,5 +1,5 @@
 use Rattle.std.proofs.Common.{◌≡◌, ℕ, List, ◌++◌, codes, append_assoc}
-use Rattle.dense_model.specs.ArrayText.{sizes_line}
+use Rattle.mm_profile.specs.ArrayText.{sizes_line}
 use Rattle.mm_text.proofs.AppendLemmas.{starts_with_append}
 use Rattle.mm_text.proofs.array.append_head.Goals as goal
 

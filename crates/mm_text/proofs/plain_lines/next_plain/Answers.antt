@@ -2,7 +2,7 @@ use Rattle.std.proofs.Common.{◌≡◌, ◌<◌, true, arith}
 use Rattle.std.proofs.lemmas.Bool.{and_parts, ltb-true}
 use Rattle.mm_text.specs.declared.due.Due.TheVariants.{Listed}
 use Rattle.mm_text.specs.Cursor.{is_due}
-use Rattle.mm_text.proofs.TakingLemmas.{says_more, next_stated, next_listed}
+use Rattle.mm_text.proofs.TableLemmas.{says_more, next_stated, next_listed}
 use Rattle.mm_text.proofs.plain_lines.next_plain.Goals as goal
 
 pub returns-in-Some-clause-entry : goal.returns-in-Some-clause-entry

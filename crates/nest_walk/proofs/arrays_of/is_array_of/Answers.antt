@@ -1,5 +1,5 @@
 use Rattle.std.proofs.Common.{◌≡◌, ◌∙◌, ◌*◌, sym, ap, subst}
-use Rattle.nest_model.specs.Runnable.{is_dense}
+use Rattle.job_model.specs.Runnable.{is_dense}
 use Rattle.nest_walk.specs.Arrays.{IsArrayOf, IsMatrixOf}
 use Rattle.nest_walk.proofs.BoxLemmas.{sparse_array}
 use Rattle.nest_walk.proofs.arrays_of.is_array_of.Goals as goal

@@ -1,8 +1,8 @@
 use Rattle.std.proofs.Common.{◌-◌, ◌∙◌, ap, sym, subst, rules}
 use Rattle.bern_base.specs.Ring.{ring_mul}
 use Rattle.std.specs.List.{All}
-use Rattle.nest_model.specs.Runnable.{IsProduct, IsExpr}
-use Rattle.nest_model.specs.Values.{factor_value, sum_value, read_at}
+use Rattle.job_model.specs.Runnable.{IsProduct, IsExpr}
+use Rattle.job_model.specs.Values.{factor_value, sum_value, read_at}
 use Rattle.nest_walk.specs.Arrays.{IsReadAt, state_of}
 use Rattle.nest_walk.proofs.ExprLemmas.{levels_left, product_more}
 use Rattle.nest_walk.proofs.expressions.+values.Goals as goal

@@ -1,7 +1,7 @@
 -- Each call of the cycle has less to do: a level less, or a step within its level.
 use Rattle.std.proofs.Common.{◌≡◌, ◌+◌, ◌-◌, ◌*◌, ◌%◌, ◌^◌, map, take}
 use Rattle.std.specs.List.{sum_by}
-use Rattle.nest_model.specs.Values.{product_of, product_value, factor_value, sum_value, read_at}
+use Rattle.job_model.specs.Values.{product_of, product_value, factor_value, sum_value, read_at}
 use Rattle.nest_walk.specs.Arrays.{state_of}
 use Rattle.nest_walk.proofs.expressions.+values.Given as goal
 

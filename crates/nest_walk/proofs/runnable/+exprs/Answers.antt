@@ -1,6 +1,6 @@
 use Rattle.std.proofs.Common.{◌-◌, sym, subst}
 use Rattle.std.specs.List.{All}
-use Rattle.nest_model.specs.Runnable.{IsElement, IsProduct, IsExpr}
+use Rattle.job_model.specs.Runnable.{IsElement, IsProduct, IsExpr}
 use Rattle.nest_walk.proofs.ExprLemmas.{levels_left}
 use Rattle.nest_walk.proofs.runnable.+exprs.Goals as goal
 

@@ -2,7 +2,7 @@
 use Rattle.std.proofs.Common.{ℕ, ◌+◌, ◌-◌, ◌*◌, ◌<◌, get_or}
 use Rattle.bern_base.specs.declared.job.Factor.{Factor}
 use Rattle.bern_base.specs.declared.job.Product.{Product}
-use Rattle.nest_model.specs.Runnable.{IsElement, IsFactor, IsProduct, IsExpr}
+use Rattle.job_model.specs.Runnable.{IsElement, IsFactor, IsProduct, IsExpr}
 use Rattle.nest_walk.proofs.runnable.+exprs.Given as goal
 
 abbrev pub decreases-is_expr : goal.decreases-is_expr

@@ -1,6 +1,6 @@
 use Rattle.std.proofs.Common.{◌∙◌, sym, subst}
 use Rattle.std.specs.List.{All}
-use Rattle.nest_model.specs.Runnable.{IsNear}
+use Rattle.job_model.specs.Runnable.{IsNear}
 use Rattle.nest_walk.specs.Walks.{AreNear}
 use Rattle.nest_walk.proofs.WalkLemmas.{near_spans}
 use Rattle.nest_walk.proofs.runnable.is_runnable_nest.Goals as goal

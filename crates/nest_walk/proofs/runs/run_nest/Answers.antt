@@ -1,5 +1,5 @@
 use Rattle.std.proofs.Common.{◌∙◌, [], sym, ap, subst}
-use Rattle.nest_model.specs.Points.{spans_of}
+use Rattle.job_model.specs.Points.{spans_of}
 use Rattle.nest_walk.specs.Arrays.{state_of}
 use Rattle.nest_walk.specs.Walks.{walked, points_from, AreNear}
 use Rattle.nest_walk.proofs.WalkLemmas.{near_spans, whole_walk}

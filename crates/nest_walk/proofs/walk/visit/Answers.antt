@@ -1,8 +1,8 @@
 use Rattle.std.proofs.Common.{◌≡◌, ◌∙◌, ◌<◌, true, length, get_or, sym, ap, arith, if◌then◌else◌}
-use Rattle.nest_model.specs.Elements.{element_of}
-use Rattle.nest_model.specs.Nests.{with_changed, changed, at_point}
-use Rattle.nest_model.specs.Points.{meets, spans_of}
-use Rattle.nest_model.specs.Runnable.{IsElement}
+use Rattle.job_model.specs.Elements.{element_of}
+use Rattle.job_model.specs.Nests.{with_changed, changed, at_point}
+use Rattle.job_model.specs.Points.{meets, spans_of}
+use Rattle.job_model.specs.Runnable.{IsElement}
 use Rattle.std.specs.Prelude.{slice_index}
 use Rattle.nest_walk.specs.Arrays.{state_of, values_of, IsReadAt}
 use Rattle.nest_walk.proofs.ExprLemmas.{expr_weaker}

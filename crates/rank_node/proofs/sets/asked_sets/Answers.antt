@@ -1,7 +1,7 @@
 use Rattle.std.proofs.Common.{◌≡◌, ◌<◌, length, sym, ap, ◌∙◌, arith}
 use Rattle.std.proofs.lemmas.List.{get_or_read}
 use Rattle.placement.specs.Placement.{owner_of}
-use Rattle.rank_model.specs.Sets.{reads}
+use Rattle.rank_model.specs.Products.{reads}
 use Rattle.rank_node.specs.Sets.{all_asked}
 use Rattle.rank_node.proofs.SetLemmas.{AreAsked-skip, AreAsked-push, all_from_each, own_fails, unread_fails}
 use Rattle.rank_node.proofs.sets.asked_sets.Goals.{then-index+then-owner-rank+in_ok-push, then-index+else-owner-rank, else-index}

@@ -1,6 +1,6 @@
 -- The marks so far are those of the entries so far.
 use Rattle.std.proofs.Common.{◌≡◌, ℕ, ◌<◌, Bool, length, take, slice_index_or}
-use Rattle.rank_model.specs.Sets.{reads}
+use Rattle.rank_model.specs.Products.{reads}
 use Rattle.rank_node.proofs.sets.marks.Given as goal
 
 abbrev pub invariant-loop-entry : goal.invariant-loop-entry

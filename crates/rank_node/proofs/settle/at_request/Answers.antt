@@ -12,4 +12,4 @@ returns-then-from-ranks-3 g c =
       | else-from-ranks-via-else-from-ranks w ↦ let past = w.if-from-ranks.false in absurd (omega arith)
     ] in
     let P : ℕ → Type 0 = λ k. from_requests g.run c.args.rank k ≡ from_requests g.run c.args.rank (k + 1) in
-    goes_request g.run c.args.rank c.args.from (c.args.from + 1) (letters_from c.args.given.now) (omega arith) (λ e. omega arith) (subst P (sym own) (request_own g.run c.args.rank c.requires.0))
+    goes_request g.run c.args.rank c.args.from (c.args.from + 1) (letters_from c.args.given.now) (omega arith) (λ e. omega arith) (subst P (sym own) (request_own g.run c.args.rank c.requires.rank))

@@ -1,7 +1,7 @@
 -- The ranks so far have sent all that the wait names.
 use Rattle.std.proofs.Common.{◌≡◌, ℕ, ◌<◌, true, nat_le, length}
 use Rattle.rank_scripts.specs.Scripts.{named}
-use Rattle.rank_model.specs.Letters.{scripts}
+use Rattle.rank_model.specs.Products.{scripts}
 use Rattle.rank_node.specs.Waits.{letters_from}
 use Rattle.rank_node.proofs.settle.has_values.Given as goal
 

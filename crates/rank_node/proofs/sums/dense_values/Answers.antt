@@ -1,5 +1,5 @@
 use Rattle.std.proofs.Common.{◌*◌, refl, ap, ◌∙◌}
-use Rattle.dense_model.specs.State.{matrix_values}
+use Rattle.bern_base.specs.Matrix.{matrix_values}
 use Rattle.rank_node.proofs.SumLemmas.{values_from_sums}
 use Rattle.rank_node.proofs.sums.dense_values.Goals as goal
 

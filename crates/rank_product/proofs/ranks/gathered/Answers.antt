@@ -2,7 +2,7 @@ use Rattle.std.proofs.Common.{ℕ, List, [], ◌∷◌, ◌++◌, map, sym, ap, 
 use Rattle.std.specs.List.{range_with_len}
 use Rattle.std.proofs.Math.Nat.{zero-add}
 use Rattle.std.proofs.lemmas.List.FromFn.{map-range_with_len_more}
-use Rattle.rank_model.specs.States.{end_value}
+use Rattle.rank_model.specs.Products.{end_value}
 use Rattle.rank_product.proofs.ranks.gathered.Goals as goal
 
 pub loop-i-preserved : goal.loop-i-preserved

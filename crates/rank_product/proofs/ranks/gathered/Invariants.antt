@@ -1,7 +1,7 @@
 -- All speak of one run.
 use Rattle.std.proofs.Common.{◌≡◌, map}
 use Rattle.std.specs.List.{range_with_len}
-use Rattle.rank_model.specs.States.{end_value}
+use Rattle.rank_model.specs.Products.{end_value}
 use Rattle.rank_product.proofs.ranks.gathered.Given as goal
 
 abbrev pub ghost-value_at : goal.ghost-value_at

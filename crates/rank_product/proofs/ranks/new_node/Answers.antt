@@ -1,5 +1,5 @@
 use Rattle.std.proofs.Common.{◌<◌, ◌≤◌, length, ◌∙◌, sym, ap, subst, arith}
-use Rattle.rank_model.specs.Runs.{Run, IsRun}
+use Rattle.rank_model.specs.Products.{IsRun, Run}
 use Rattle.rank_node.specs.Jobs.{IsJobOf, ArePartsOf, is_whole}
 use Rattle.rank_product.specs.Runs.{parts_at}
 use Rattle.rank_product.proofs.PartsLemmas.{parts-are}

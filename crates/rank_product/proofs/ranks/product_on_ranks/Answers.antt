@@ -2,8 +2,8 @@ use Rattle.std.proofs.Common.{◌≡◌, ℕ, length, map, set, sym, ap, ◌∙�
 use Rattle.std.specs.List.{range_with_len}
 use Rattle.std.proofs.lemmas.List.FromFn.{length-map-range_with_len}
 use Rattle.std.proofs.lemmas.Result.{IfOk-weaker}
-use Rattle.nest_model.specs.Nests as nests
-use Rattle.rank_model.specs.States.{end_value}
+use Rattle.job_model.specs.Nests as nests
+use Rattle.rank_model.specs.Products.{end_value}
 use Rattle.rank_node.specs.Jobs.{is_whole}
 use Rattle.rank_product.specs.Runs.{first_state, run_of}
 use Rattle.rank_product.proofs.RunLemmas.{product_end}

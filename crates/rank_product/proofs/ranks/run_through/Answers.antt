@@ -1,5 +1,5 @@
 use Rattle.std.proofs.Common.{sym, subst}
-use Rattle.rank_model.specs.Runs.{Run, IsRun}
+use Rattle.rank_model.specs.Products.{IsRun, Run}
 use Rattle.interleave.specs.Worlds.{IsStart}
 use Rattle.rank_product.proofs.RunLemmas.{run_is}
 use Rattle.rank_product.proofs.ranks.run_through.Goals as goal

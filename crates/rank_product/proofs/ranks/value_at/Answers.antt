@@ -1,6 +1,5 @@
 use Rattle.std.proofs.Common.{◌≡◌, ℕ, ◌<◌, List, true, length, slice_get, ◌∙◌, sym, ap, subst}
-use Rattle.rank_model.specs.Runs.{part_values}
-use Rattle.rank_model.specs.States.{end_state}
+use Rattle.rank_model.specs.Products.{end_state, part_values}
 use Rattle.rank_node.specs.declared.node.Node.{Node}
 use Rattle.rank_product.proofs.EndLemmas.{holds_end, owner_within, local_within, end_read_at}
 use Rattle.rank_product.proofs.ranks.value_at.Goals as goal

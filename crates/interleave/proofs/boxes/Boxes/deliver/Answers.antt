@@ -1,12 +1,17 @@
-use Rattle.std.proofs.Common.{◌≡◌, [], take, get_or, ap, ◌∙◌}
+use Rattle.std.proofs.Common.{◌≡◌, ◌<◌, [], OnOk, length, take, get_or, sym, ap, ◌∙◌, subst}
 use Rattle.std.proofs.lemmas.List.{get_or_read}
-use Rattle.std.proofs.lemmas.Result.{IfOk-weaker}
-use Rattle.rank_scripts.specs.Nodes.{took}
-use Rattle.rank_model.specs.Letters.{scripts}
-use Rattle.rank_node.specs.NodeStates.{node_of}
+use Rattle.rank_node.specs.NodeStates.{HasTaken}
+use Rattle.interleave.specs.Worlds.{CanTake}
 use Rattle.interleave.proofs.boxes.Boxes.deliver.Goals as goal
 
-pub returns-clause-moved : goal.returns-clause-moved
-returns-clause-moved g c =
-    let old : c.index_mut-row.result.now ≡ get_or c.args.self.now c.args.from [] = get_or_read c.args.self.now c.args.from c.index_mut-row.result.now c.requires.1.1.0 (c.index_mut-row.ensures.value ∙ ap (λ xs. get_or xs c.args.from c.index_mut-row.result.now) c.self.view_is) [] in
-    IfOk-weaker c.deliver.result _ _ (λ u moved. moved ∙ ap (λ q. took (scripts g.run) c.args.node.now.rank (node_of g.run c.args.node.now) c.args.from (take 1 (get_or q c.args.rank []))) old) c.deliver.ensures.moved
+pub deliver-requires : goal.deliver-requires
+deliver-requires g c =
+    let read = c.index_mut-row.ensures.value ∙ ap (λ xs. get_or xs c.args.from c.index_mut-row.result.now) c.self.view_is in
+    let old : c.index_mut-row.result.now ≡ get_or c.args.self.now c.args.from [] = get_or_read c.args.self.now c.args.from c.index_mut-row.result.now c.requires.0 read [] in
+    (subst (λ row. c.args.rank < length row) (sym old) c.requires.1.0, subst (λ row. CanTake g.run c.args.from (get_or row c.args.rank []) c.args.node.now) (sym old) c.requires.1.1)
+
+pub returns-clause-node : goal.returns-clause-node
+returns-clause-node g c =
+    let read = c.index_mut-row.ensures.value ∙ ap (λ xs. get_or xs c.args.from c.index_mut-row.result.now) c.self.view_is in
+    let old : c.index_mut-row.result.now ≡ get_or c.args.self.now c.args.from [] = get_or_read c.args.self.now c.args.from c.index_mut-row.result.now c.requires.0 read [] in
+    subst (λ row. OnOk c.deliver.result (HasTaken g.run c.args.from (take 1 (get_or row c.args.rank [])) c.args.node.now c.deliver.new.node)) old c.deliver.ensures.node

@@ -1,10 +1,8 @@
-use Rattle.std.proofs.Common.{◌≡◌, [], ◌∷◌, take, sym, ap, ◌∙◌}
-use Rattle.rank_scripts.specs.Nodes.{took}
-use Rattle.rank_model.specs.Letters.{scripts}
-use Rattle.rank_node.specs.NodeStates.{node_of}
+use Rattle.std.proofs.Common.{◌≡◌, [], ◌∷◌, take, sym, ap, ◌∙◌, subst}
+use Rattle.rank_node.specs.NodeStates.{HasTaken}
 use Rattle.interleave.proofs.boxes.Queue.deliver.Goals as goal
 
-pub returns-in-Ok-clause-moved : goal.returns-in-Ok-clause-moved
-returns-in-Ok-clause-moved g c =
+pub returns-in-Ok-clause-node : goal.returns-in-Ok-clause-node
+returns-in-Ok-clause-node g c =
     let front : take 1 c.args.self.now ≡ c.in-Some.letter ∷ [] = ap (λ xs. take 1 xs) (sym c.self.view_is ∙ c.in-Some.ensures.items) in
-    c.in-Ok.ensures.moved ∙ ap (took (scripts g.run) c.args.node.now.rank (node_of g.run c.args.node.now) c.args.from) (sym front)
+    subst (λ letters. HasTaken g.run c.args.from letters c.args.node.now c.take.new.self) (sym front) c.in-Ok.ensures.ok

@@ -1,5 +1,5 @@
 use Rattle.rank_scripts.specs.Worlds.{can}
-use Rattle.rank_model.specs.Letters.{scripts}
+use Rattle.rank_model.specs.Products.{scripts}
 use Rattle.interleave.specs.Worlds.{world_in}
 use Rattle.interleave.proofs.EventLemmas.{take_more_event}
 use Rattle.interleave.proofs.world.World.push_events.Goals as goal

@@ -2,7 +2,7 @@
 use Rattle.std.proofs.Common.{◌≡◌, ◌++◌, ◌∷◌, map, filter}
 use Rattle.std.specs.List.{range_with_len}
 use Rattle.rank_scripts.specs.Worlds.{Works, Posts, Takes, can}
-use Rattle.rank_model.specs.Letters.{scripts}
+use Rattle.rank_model.specs.Products.{scripts}
 use Rattle.interleave.specs.Worlds.{world_in, event_of}
 use Rattle.interleave.proofs.world.World.push_events.Given as goal
 

@@ -15,36 +15,17 @@ deliver-done-requires g c =
     let from = l.enabled_rank g.run.ranks c.args.from (has_some (flight_in c.args.self.now.boxes c.args.from r)) rank.1 in
     let row : c.args.from < length c.args.self.now.boxes = rw is.rows from.0 in
     let column : r < length (get_or c.args.self.now.boxes c.args.from []) = rw (is.row c.args.from [] row) rank.0 in (
-      (is.nodes_are r c.index_mut.result.now at).node,
+      row,
       (
-        from.0,
-        (
-          row,
-          (
-            column,
-            (
-              l.some_in (flight_in c.args.self.now.boxes c.args.from r) from.1,
-              λ letter first.
-                  l.next_taken g.run nodes c.args.self.now.boxes r c.args.from c.index_mut.result.now letter is c.requires.1 at first,
-            ),
-          ),
-        ),
+        column,
+        record {
+          node = (is.nodes_are r c.index_mut.result.now at).node;
+          from = from.0;
+          some = l.some_in (flight_in c.args.self.now.boxes c.args.from r) from.1;
+          next = λ letter first. l.next_taken g.run nodes c.args.self.now.boxes r c.args.from c.index_mut.result.now letter is c.requires.1 at first;
+        },
       ),
     )
-
-pub returns-clause-fit : goal.returns-clause-fit
-returns-clause-fit g c =
-    let r = c.args.rank in
-    let nodes = c.args.self.now.nodes in
-    let is = c.requires.0 in
-    let rank = l.enabled_rank g.run.ranks r (nat_lt c.args.from g.run.ranks && has_some (flight_in c.args.self.now.boxes c.args.from c.args.rank)) c.requires.1 in
-    let items : c.into_vec-nodes.result.items ≡ nodes = c.into_vec-nodes.ensures ∙ c.replace.ensures.value in
-    let at : slice_get nodes r ≡ Some c.index_mut.result.now = l.lent_node g.run nodes c.into_vec-nodes.result.items c.args.self.now.boxes r c.index_mut.result.now is items rank.0 c.index_mut.ensures.value in
-    let nodes_are : c.from_vec.result ≡ set nodes r c.deliver-done.new.node = c.from_vec.ensures ∙ ap (λ xs. set xs r c.deliver-done.new.node) items in
-    let from_below = (l.enabled_rank g.run.ranks c.args.from (has_some (flight_in c.args.self.now.boxes c.args.from r)) rank.1).0 in
-    let old = is.nodes_are r c.index_mut.result.now at in
-    l.ok_four c.deliver-done.result _ _ _ _ _ c.deliver-done.ensures.queue c.deliver-done.ensures.node c.deliver-done.ensures.rank c.deliver-done.ensures.moved
-    (λ boxes_are node kept moved. (l.takes_done_of g.run nodes c.from_vec.result c.args.self.now.boxes c.deliver-done.new.self r c.args.from c.index_mut.result.now c.deliver-done.new.node is c.requires.1 at nodes_are node kept moved from_below boxes_are).fit)
 
 pub returns-clause-ok : goal.returns-clause-ok
 returns-clause-ok g c =
@@ -56,9 +37,8 @@ returns-clause-ok g c =
     let at : slice_get nodes r ≡ Some c.index_mut.result.now = l.lent_node g.run nodes c.into_vec-nodes.result.items c.args.self.now.boxes r c.index_mut.result.now is items rank.0 c.index_mut.ensures.value in
     let nodes_are : c.from_vec.result ≡ set nodes r c.deliver-done.new.node = c.from_vec.ensures ∙ ap (λ xs. set xs r c.deliver-done.new.node) items in
     let from_below = (l.enabled_rank g.run.ranks c.args.from (has_some (flight_in c.args.self.now.boxes c.args.from r)) rank.1).0 in
-    let old = is.nodes_are r c.index_mut.result.now at in
-    l.ok_four c.deliver-done.result _ _ _ _ _ c.deliver-done.ensures.queue c.deliver-done.ensures.node c.deliver-done.ensures.rank c.deliver-done.ensures.moved
-    (λ boxes_are node kept moved. (l.takes_done_of g.run nodes c.from_vec.result c.args.self.now.boxes c.deliver-done.new.self r c.args.from c.index_mut.result.now c.deliver-done.new.node is c.requires.1 at nodes_are node kept moved from_below boxes_are).same)
+    l.ok_two c.deliver-done.result _ _ _ c.deliver-done.ensures.queue c.deliver-done.ensures.node
+    (λ boxes_are has. l.takes_done_of g.run nodes c.from_vec.result c.args.self.now.boxes c.deliver-done.new.self r c.args.from c.index_mut.result.now c.deliver-done.new.node is c.requires.1 at nodes_are has from_below boxes_are)
 
 pub returns-clause-err : goal.returns-clause-err
 returns-clause-err g c =

@@ -14,18 +14,6 @@ work-done-requires g c =
     let at : slice_get nodes r ≡ Some c.index_mut.result.now = l.lent_node g.run nodes c.into_vec-nodes.result.items c.args.self.now.boxes r c.index_mut.result.now is items rank.0 c.index_mut.ensures.value in
     ((is.nodes_are r c.index_mut.result.now at).node, l.todo_at g.run nodes r c.index_mut.result.now at_work at rank.1)
 
-pub returns-clause-fit : goal.returns-clause-fit
-returns-clause-fit g c =
-    let r = c.args.rank in
-    let nodes = c.args.self.now.nodes in
-    let is = c.requires.0 in
-    let rank = l.enabled_rank g.run.ranks r (at_work (node_in g.run c.args.self.now.nodes c.args.rank).todo) c.requires.1 in
-    let items : c.into_vec-nodes.result.items ≡ nodes = c.into_vec-nodes.ensures ∙ c.replace.ensures.value in
-    let at : slice_get nodes r ≡ Some c.index_mut.result.now = l.lent_node g.run nodes c.into_vec-nodes.result.items c.args.self.now.boxes r c.index_mut.result.now is items rank.0 c.index_mut.ensures.value in
-    let nodes_are : c.from_vec.result ≡ set nodes r c.work-done.new.self = c.from_vec.ensures ∙ ap (λ xs. set xs r c.work-done.new.self) items in
-    l.ok_three c.work-done.result _ _ _ _ c.work-done.ensures.node c.work-done.ensures.rank c.work-done.ensures.moved
-    (λ node kept moved. (l.works_done g.run nodes c.from_vec.result c.args.self.now.boxes r c.index_mut.result.now c.work-done.new.self is c.requires.1 at nodes_are node kept moved).fit)
-
 pub returns-clause-ok : goal.returns-clause-ok
 returns-clause-ok g c =
     let r = c.args.rank in
@@ -35,5 +23,5 @@ returns-clause-ok g c =
     let items : c.into_vec-nodes.result.items ≡ nodes = c.into_vec-nodes.ensures ∙ c.replace.ensures.value in
     let at : slice_get nodes r ≡ Some c.index_mut.result.now = l.lent_node g.run nodes c.into_vec-nodes.result.items c.args.self.now.boxes r c.index_mut.result.now is items rank.0 c.index_mut.ensures.value in
     let nodes_are : c.from_vec.result ≡ set nodes r c.work-done.new.self = c.from_vec.ensures ∙ ap (λ xs. set xs r c.work-done.new.self) items in
-    l.ok_three c.work-done.result _ _ _ _ c.work-done.ensures.node c.work-done.ensures.rank c.work-done.ensures.moved
-    (λ node kept moved. (l.works_done g.run nodes c.from_vec.result c.args.self.now.boxes r c.index_mut.result.now c.work-done.new.self is c.requires.1 at nodes_are node kept moved).same)
+    l.ok_then c.work-done.result _ _ c.work-done.ensures.ok
+    (λ has. l.works_done g.run nodes c.from_vec.result c.args.self.now.boxes r c.index_mut.result.now c.work-done.new.self is c.requires.1 at nodes_are has)

@@ -3,4 +3,4 @@ use Rattle.job_rules.specs.Looked.{guard_of}
 use Rattle.job_rules.proofs.scope.NestScope.guards.Given as goal
 
 abbrev pub invariant-loop-guard : goal.invariant-loop-guard
-invariant-loop-guard l = l.wide ≡ map (guard_of l.self) (take l.guard-index l.guards)
+invariant-loop-guard l = l.resolved ≡ map (guard_of l.self) (take l.guard-index l.guards)

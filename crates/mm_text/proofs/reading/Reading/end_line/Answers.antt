@@ -3,7 +3,7 @@ use Rattle.std.proofs.lemmas.Bool.{eqb-true}
 use Rattle.std.proofs.lemmas.List.{nil_from_length}
 use Rattle.mm_profile.specs.Lines.{without_return}
 use Rattle.mm_text.specs.Stages.{Steps}
-use Rattle.mm_text.proofs.FeedingLemmas.{ends_line}
+use Rattle.mm_text.proofs.PieceLemmas.{ends_line}
 use Rattle.mm_text.proofs.reading.Reading.end_line.Goals as goal
 
 pub returns-then-is_empty-clause-reads : goal.returns-then-is_empty-clause-reads

@@ -2,7 +2,7 @@ use Rattle.std.proofs.Common.{◌≡◌, ℕ, ◌<◌, List, [], length, sym, ap
 use Rattle.std.proofs.lemmas.Bool.{eqb-false}
 use Rattle.mm_profile.specs.Lines.{without_return}
 use Rattle.mm_text.specs.Stages.{Steps, Gives, outcome}
-use Rattle.mm_text.proofs.FeedingLemmas.{lines_whole}
+use Rattle.mm_text.proofs.PieceLemmas.{lines_whole}
 use Rattle.mm_text.proofs.reading.Reading.finish.Goals as goal
 
 pub returns-in-Ok-clause-read : goal.returns-in-Ok-clause-read

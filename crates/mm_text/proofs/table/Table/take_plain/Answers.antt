@@ -1,4 +1,4 @@
-use Rattle.mm_text.proofs.TakingLemmas.{takes_first}
+use Rattle.mm_text.proofs.TableLemmas.{takes_first}
 use Rattle.mm_text.proofs.table.Table.take_plain.Goals as goal
 
 pub returns-in-Ok-clause-some : goal.returns-in-Ok-clause-some

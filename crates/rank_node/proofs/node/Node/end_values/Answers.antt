@@ -2,11 +2,11 @@ use Rattle.std.proofs.Common.{◌≡◌, ◌<◌, ℕ, List, length, sym, ap, �
 use Rattle.std.specs.List.{All}
 use Rattle.std.proofs.lemmas.List.{length-map}
 use Rattle.bern_base.specs.declared.matrix.Entry.{Entry}
-use Rattle.dense_model.specs.State.{read}
+use Rattle.job_model.specs.State.{read}
 use Rattle.placement.specs.Placement.{Triple, owned_indices, owned_of}
 use Rattle.placement.proofs.IndexLemmas.{length-owned_indices}
 use Rattle.std.proofs.lemmas.Result.{IfOk-weaker}
-use Rattle.rank_model.specs.Runs.{answer_part}
+use Rattle.rank_model.specs.Products.{answer_part}
 use Rattle.rank_node.specs.Positions.{state_of, is_summed}
 use Rattle.rank_node.specs.NodeStates.{values_held}
 use Rattle.rank_node.specs.Sums.{sums_of}

@@ -2,9 +2,8 @@ use Rattle.std.proofs.Common.{◌≡◌, ◌<◌, ℕ, List, length, sym, ap, �
 use Rattle.std.specs.List.{All}
 use Rattle.bern_base.specs.declared.matrix.Entry.{Entry}
 use Rattle.rank_node.specs.declared.stage.Stage.TheVariants.{Request}
-use Rattle.rank_node.specs.Positions.{todo_of, passed_of}
 use Rattle.rank_node.specs.Sets.{all_asked}
-use Rattle.rank_node.proofs.WorkLemmas.{extent_is, entries_cols, asks_are, inspect_leaves, worked_moved, worked_kept}
+use Rattle.rank_node.proofs.WorkLemmas.{extent_is, entries_cols, asks_are, inspect_leaves, work_moves}
 use Rattle.rank_node.proofs.node.Node.inspect.Goals as goal
 
 pub asked_sets-requires-clause-extent : goal.asked_sets-requires-clause-extent
@@ -22,17 +21,17 @@ settled-self-requires g c =
     let is = c.requires.0 in
     let are : c.in-Ok.asks ≡ all_asked g.run.place n.entries (length g.run.place) n.rank g.run.ranks =
     c.in-Ok.ensures ∙ ap (λ place. all_asked place c.as_slice.result.now n.extent n.rank n.ranks) c.place-place.ensures.triples ∙ ap (λ es. all_asked g.run.place es n.extent n.rank n.ranks) c.as_slice.ensures ∙
-    ap (λ m. all_asked g.run.place n.entries m n.rank n.ranks) (extent_is g.run n is.of_run) ∙ ap (all_asked g.run.place n.entries (length g.run.place) n.rank) is.of_run.ranks in
-    (is.of_run.rank, (is.of_run.ranks, (is.boxes ∙ sym is.of_run.ranks, (is.fronts, (λ e. asks_are g.run n c.in-Ok.asks is.of_run are, λ e. absurd (omega arith))))))
+    ap (λ m. all_asked g.run.place n.entries m n.rank n.ranks) (extent_is g.run n is.of_run) ∙ ap (all_asked g.run.place n.entries (length g.run.place) n.rank) is.of_run.ranks in (
+      record { rank = is.of_run.rank; ranks = is.of_run.ranks; long = is.boxes ∙ sym is.of_run.ranks; fronts = is.fronts },
+      (λ e. asks_are g.run n c.in-Ok.asks is.of_run are, λ e. absurd (omega arith)),
+    )
 
-pub returns-clause-moved : goal.returns-clause-moved
-returns-clause-moved g c = worked_moved g.run c.args.self.now (Request 0) c.settled-self.result c.requires.0 (ap (todo_of g.run c.args.self.now.rank) c.requires.1) (sym (ap passed_of c.requires.1)) c.settled-self.ensures
-
-pub returns-clause-node : goal.returns-clause-node
-returns-clause-node g c =
+pub returns-clause-ok : goal.returns-clause-ok
+returns-clause-ok g c =
     let n = c.args.self.now in
     let is = c.requires.0 in
     let are : c.in-Ok.asks ≡ all_asked g.run.place n.entries (length g.run.place) n.rank g.run.ranks =
     c.in-Ok.ensures ∙ ap (λ place. all_asked place c.as_slice.result.now n.extent n.rank n.ranks) c.place-place.ensures.triples ∙ ap (λ es. all_asked g.run.place es n.extent n.rank n.ranks) c.as_slice.ensures ∙
     ap (λ m. all_asked g.run.place n.entries m n.rank n.ranks) (extent_is g.run n is.of_run) ∙ ap (all_asked g.run.place n.entries (length g.run.place) n.rank) is.of_run.ranks in
-    worked_kept g.run n n.values c.in-Ok.asks n.sums (Request 0) c.settled-self.result is (inspect_leaves g.run n c.in-Ok.asks c.settled-self.result is c.requires.1 (asks_are g.run n c.in-Ok.asks is.of_run are) c.settled-self.ensures)
+    let leaves = inspect_leaves g.run n c.in-Ok.asks c.settled-self.result is c.requires.1 (asks_are g.run n c.in-Ok.asks is.of_run are) c.settled-self.ensures in
+    work_moves g.run n n.values c.in-Ok.asks n.sums (Request 0) c.settled-self.result is leaves

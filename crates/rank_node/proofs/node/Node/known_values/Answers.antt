@@ -1,11 +1,11 @@
 use Rattle.std.proofs.Common.{◌≡◌, ◌<◌, ℕ, List, [], length, map, sym, ap, ◌∙◌, subst, arith}
+use Rattle.std.proofs.lemmas.Option.{get_or_from_slice_get}
 use Rattle.std.specs.List.{All}
 use Rattle.std.proofs.lemmas.List.{length-map}
-use Rattle.dense_model.specs.State.{read}
-use Rattle.rank_model.specs.Sets.{receive}
-use Rattle.rank_node.specs.Letters.{nest_values}
+use Rattle.job_model.specs.State.{read}
+use Rattle.rank_model.specs.Products.{receive}
+use Rattle.rank_node.specs.Letters.{turn_values}
 use Rattle.rank_node.specs.Positions.{is_inspected}
-use Rattle.rank_node.proofs.ListLemmas.{get_or-read_at}
 use Rattle.rank_node.proofs.SourceLemmas.{received_below}
 use Rattle.rank_node.proofs.KnownLemmas.{known_none, known_more, received_values}
 use Rattle.rank_node.proofs.WorkLemmas.{extent_is, zeros_long}
@@ -20,7 +20,7 @@ put_values-requires-clause-elements g c =
     let same = c.requires.0.of_run.ranks in
     let below : c.loop-from.from < g.run.ranks = omega arith in
     let asked : c.as_slice.result.now ≡ receive g.run n.rank c.loop-from.from =
-    c.as_slice.ensures ∙ sym (get_or-read_at n.asks c.loop-from.from c.at.result.now [] c.at.ensures) ∙ (c.requires.0.asked (ap is_inspected c.requires.1)).each c.loop-from.from [] below in
+    c.as_slice.ensures ∙ sym (get_or_from_slice_get n.asks c.loop-from.from c.at.result.now [] c.at.ensures) ∙ (c.requires.0.asked (ap is_inspected c.requires.1)).each c.loop-from.from [] below in
     let P : List ℕ → Type 0 = λ ws. All (λ w. w < length g.run.place) ws in
     let Q : ℕ → Type 0 = λ m. All (λ w. w < m) c.as_slice.result.now in
     subst Q (sym c.loop-from.invariant.long) (subst P (sym asked) (received_below g.run n.rank c.loop-from.from))
@@ -31,9 +31,9 @@ put_values-requires-clause-values g c =
     let same = c.requires.0.of_run.ranks in
     let below : c.loop-from.from < g.run.ranks = omega arith in
     let asked : c.as_slice.result.now ≡ receive g.run n.rank c.loop-from.from =
-    c.as_slice.ensures ∙ sym (get_or-read_at n.asks c.loop-from.from c.at.result.now [] c.at.ensures) ∙ (c.requires.0.asked (ap is_inspected c.requires.1)).each c.loop-from.from [] below in
+    c.as_slice.ensures ∙ sym (get_or_from_slice_get n.asks c.loop-from.from c.at.result.now [] c.at.ensures) ∙ (c.requires.0.asked (ap is_inspected c.requires.1)).each c.loop-from.from [] below in
     let values : c.values_in.result.now ≡ map (read g.run.first g.run.source) (receive g.run n.rank c.loop-from.from) =
-    c.values_in.ensures ∙ ap nest_values (sym (get_or-read_at n.given c.loop-from.from c.at-in-loop-from.result.now [] c.at-in-loop-from.ensures)) ∙ received_values g.run n c.loop-from.from c.requires.0 c.requires.1 below in
+    c.values_in.ensures ∙ ap turn_values (sym (get_or_from_slice_get n.given c.loop-from.from c.at-in-loop-from.result.now [] c.at-in-loop-from.ensures)) ∙ received_values g.run n c.loop-from.from c.requires.0 c.requires.1 below in
     ap length values ∙ length-map (receive g.run n.rank c.loop-from.from) (read g.run.first g.run.source) ∙ ap length (sym asked)
 
 pub loop-from-preserved : goal.loop-from-preserved
@@ -42,7 +42,7 @@ loop-from-preserved g c =
     let same = c.requires.0.of_run.ranks in
     let below : c.loop-from.from < g.run.ranks = omega arith in
     let asked : c.as_slice.result.now ≡ receive g.run n.rank c.loop-from.from =
-    c.as_slice.ensures ∙ sym (get_or-read_at n.asks c.loop-from.from c.at.result.now [] c.at.ensures) ∙ (c.requires.0.asked (ap is_inspected c.requires.1)).each c.loop-from.from [] below in
+    c.as_slice.ensures ∙ sym (get_or_from_slice_get n.asks c.loop-from.from c.at.result.now [] c.at.ensures) ∙ (c.requires.0.asked (ap is_inspected c.requires.1)).each c.loop-from.from [] below in
     let values : c.values_in.result.now ≡ map (read g.run.first g.run.source) (receive g.run n.rank c.loop-from.from) =
-    c.values_in.ensures ∙ ap nest_values (sym (get_or-read_at n.given c.loop-from.from c.at-in-loop-from.result.now [] c.at-in-loop-from.ensures)) ∙ received_values g.run n c.loop-from.from c.requires.0 c.requires.1 below in
+    c.values_in.ensures ∙ ap turn_values (sym (get_or_from_slice_get n.given c.loop-from.from c.at-in-loop-from.result.now [] c.at-in-loop-from.ensures)) ∙ received_values g.run n c.loop-from.from c.requires.0 c.requires.1 below in
     known_more g.run n.rank c.loop-from.from c.as_slice.result.now c.values_in.result.now c.loop-from.known.items c.put_values.new.known.items c.loop-from.invariant asked values c.put_values.ensures

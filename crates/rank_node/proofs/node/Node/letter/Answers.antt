@@ -1,7 +1,7 @@
 use Rattle.std.proofs.Common.{sym, ◌∙◌, subst}
 use Rattle.std.proofs.lemmas.Result.{IfOk-weaker}
 use Rattle.bern_base.specs.declared.letter.Letter.{Letter}
-use Rattle.rank_model.specs.Letters.{scripts}
+use Rattle.rank_model.specs.Products.{scripts}
 use Rattle.rank_node.specs.NodeStates.{node_of, IsFirstOfRest, IsNextToPost}
 use Rattle.rank_node.proofs.ListLemmas.{some_same}
 use Rattle.rank_node.proofs.PositionLemmas.{post_request, post_values}

@@ -1,7 +1,7 @@
 use Rattle.std.proofs.Common.{◌≡◌, ℕ, List, Some, length, slice_get, ◌∙◌, sym, ap, subst}
 use Rattle.bern_base.specs.declared.job.Nest.{Nest}
 use Rattle.placement.specs.declared.part.Part.{Part}
-use Rattle.rank_node.specs.Made.{AreHeld}
+use Rattle.rank_node.specs.Holdings.{AreHeld}
 use Rattle.rank_node.proofs.ListLemmas.{some_same}
 use Rattle.rank_node.proofs.NewLemmas.{element_at, new_fresh, new_is}
 use Rattle.rank_node.proofs.node.Node.new.Goals as goal

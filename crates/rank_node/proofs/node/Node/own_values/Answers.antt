@@ -2,15 +2,15 @@ use Rattle.std.proofs.Common.{◌≡◌, ◌<◌, ℕ, List, length, map, Some, 
 use Rattle.std.proofs.lemmas.List.{length-map}
 use Rattle.std.specs.List.{All}
 use Rattle.bern_base.specs.declared.letter.Letter.TheVariants as letter
-use Rattle.dense_model.specs.State.{read}
+use Rattle.job_model.specs.State.{read}
 use Rattle.placement.specs.Placement.{Triple, owner_of, owned_indices, owned_of}
 use Rattle.placement.proofs.IndexLemmas.{length-owned_indices}
-use Rattle.rank_model.specs.Sets.{send}
+use Rattle.rank_model.specs.Products.{send}
 use Rattle.rank_node.specs.Sets.{own_values}
 use Rattle.rank_node.specs.declared.stage.Stage.{Stage}
 use Rattle.rank_node.specs.declared.stage.Stage.TheVariants.{Values}
 use Rattle.rank_node.specs.Positions.{HasItsLetter}
-use Rattle.rank_node.proofs.SourceLemmas.{received_below, received_owner, own_values_are, values_of_some, map_nil}
+use Rattle.rank_node.proofs.SourceLemmas.{received_below, received_owner, own_values_are, some_values_is, map_nil}
 use Rattle.rank_node.proofs.NodeKept.{asked_slice, own_slice, source_inside}
 use Rattle.rank_node.proofs.node.Node.own_values.Goals as goal
 
@@ -48,4 +48,4 @@ returns g c =
     let has : HasItsLetter g.run r (Values c.args.to) = subst P c.requires.1 c.requires.0.letter in
     let values : c.in_ok-values.values ≡ map f ws = c.in_ok-values.ensures ∙ ap (λ place. own_values place c.as_slice.result.now c.asked_in-asked.result.now) c.place.ensures.triples ∙ ap (own_values g.run.place c.as_slice.result.now) asked ∙
     own_values_are g.run.ranks g.run.place r f c.as_slice.result.now ws c.requires.0.of_run.run_is.placed own (received_below g.run c.args.to r) (received_owner g.run c.args.to r) in
-    values_of_some 0 (map f ws) (λ none. has.2 (map_nil f ws none)) ∙ ap (λ xs. Some (letter.Values 0 xs)) (sym values)
+    some_values_is 0 (map f ws) (λ none. has.2 (map_nil f ws none)) ∙ ap (λ xs. Some (letter.Values 0 xs)) (sym values)

@@ -1,4 +1,4 @@
-use Rattle.std.proofs.Common.{arith}
+use Rattle.std.proofs.Common.{refl, arith}
 use Rattle.rank_node.proofs.NodeKept.{post_counts, posted_moved, posted_kept}
 use Rattle.rank_node.proofs.node.Node.post.Goals as goal
 
@@ -14,9 +14,9 @@ overflow_add-tally-2 g c =
     let few = small.1 in
     omega arith
 
-pub returns-clause-moved : goal.returns-clause-moved
-returns-clause-moved g c = posted_moved g.run c.args.self.now c.args.to c.args.values c.args.next c.settled-self.result c.requires.0 c.requires.1.1 c.settled-self.ensures
-
-pub returns-clause-node : goal.returns-clause-node
-returns-clause-node g c =
-    posted_kept g.run c.args.self.now c.args.to c.args.values c.args.next c.settled-self.result c.at-tally.result.now c.set.new.self c.requires.0 c.requires.1.0 c.requires.1.1 c.at-tally.ensures c.set.ensures c.settled-self.ensures
+pub returns : goal.returns
+returns g c = record {
+  node = posted_kept g.run c.args.self.now c.args.to c.args.values c.args.next c.settled-self.result c.at-tally.result.now c.set.new.self c.requires.0 c.requires.1.0 c.requires.1.1 c.at-tally.ensures c.set.ensures c.settled-self.ensures;
+  rank = refl;
+  moved = posted_moved g.run c.args.self.now c.args.to c.args.values c.args.next c.settled-self.result c.requires.0 c.requires.1.1 c.settled-self.ensures;
+}

@@ -1,0 +1,122 @@
+ghost use Rattle.std.specs.Prelude.{◌≡◌, ◌<◌, length, IfOk};
+
+use bern_base::{Axis, Entry, Items, MOST_RANKS, MOST_SIDE, Matrix, NoMemory, Val, is_matrix};
+use placement::{
+    Cyclic, Placement, blocks_are_dealt_in_turn, elements_are_owned_once, parts_share_a_matrix,
+    split,
+};
+use std::alloc::Global;
+use std::test::Fail;
+
+/// The index again, by the laws alone.
+fn there_and_back<P: Placement>(place: &P, i: u32) -> u32
+    requires { i < length (P.triples place.now) }
+    ensures { result ≡ i }
+{
+    place.global(place.owner(i), place.local(i))
+}
+
+#[test]
+fn blocks_of_two_are_dealt_to_three_ranks(rt: HostRuntime) {
+    let place = Cyclic::new(10, 3, 2);
+    let owners = [0, 0, 1, 1, 2, 2, 0, 0, 1, 1];
+    let locals = [0, 1, 0, 1, 0, 1, 2, 3, 2, 3];
+    for i in 0..10u32 {
+        assert_eq!(rt; place.owner(i), owners[i as usize]);
+        assert_eq!(rt; place.local(i), locals[i as usize]);
+        assert_eq!(rt; there_and_back(&place, i), i);
+    }
+    let owned = place.owned(0);
+    assert_eq!(rt; (owned, place.owned(1), place.owned(2)), (4, 4, 2));
+    assert_eq!(rt; place.global(0, 3), 7);
+}
+
+#[test]
+fn a_rank_may_own_nothing(rt: HostRuntime) {
+    let place = Cyclic::block(3, 64);
+    assert_eq!(rt; (place.owner(2), place.local(2)), (2, 0));
+    assert_eq!(rt;
+        (place.owned(2), place.owned(3), place.owned(63)),
+        (1, 0, 0)
+    );
+}
+
+#[test]
+fn nothing_overflows_at_the_limits(rt: HostRuntime) {
+    let fine = Cyclic::new(MOST_SIDE, MOST_RANKS, 1);
+    assert_eq!(rt;
+        (fine.owner(4_194_303), fine.local(4_194_303)),
+        (63, 65_535)
+    );
+    assert_eq!(rt; fine.owned(63), 65_536);
+    let coarse = Cyclic::new(MOST_SIDE, MOST_RANKS, MOST_SIDE);
+    assert_eq!(rt;
+        (coarse.owner(4_194_303), coarse.local(4_194_303)),
+        (0, 4_194_303)
+    );
+    assert_eq!(rt; (coarse.owned(0), coarse.owned(63)), (4_194_304, 0));
+}
+
+fn entry(row: u32, col: u32, value: u64) -> Entry {
+    Entry {
+        row,
+        col,
+        value: Val::new(value),
+    }
+}
+
+/// Four rows, three columns, and an entry with the value 0.
+fn sample(alloc: Global) -> Result<Matrix, NoMemory>
+    ensures { IfOk result (λ m. (m.rows ≡ 4) × (m.cols ≡ 3)) }
+{
+    let entries = [
+        entry(0, 0, 5),
+        entry(0, 2, 0),
+        entry(1, 1, 7),
+        entry(2, 0, 1),
+        entry(3, 2, 9),
+    ];
+    Ok(Matrix {
+        rows: 4,
+        cols: 3,
+        entries: Items::from_slice(alloc, entries.as_slice())?,
+    })
+}
+
+#[test]
+fn a_split_by_rows_keeps_the_zero_and_counts_rows_anew(rt: HostRuntime) -> Result<(), Fail> {
+    let matrix = sample(rt.alloc())?;
+    assert!(rt; is_matrix(&matrix));
+    let part = split(rt.alloc(), &matrix, &Cyclic::new(4, 2, 1), Axis::Row, 0)?;
+    assert_eq!(rt; (part.matrix.rows, part.matrix.cols), (2, 3));
+    assert_eq!(rt;
+        part.matrix.entries.as_slice(),
+        [entry(0, 0, 5), entry(0, 2, 0), entry(1, 0, 1)].as_slice()
+    );
+    assert_eq!(rt; part.globals.as_slice(), [0, 2].as_slice());
+    Ok(())
+}
+
+#[test]
+fn a_split_by_columns_keeps_the_order_of_the_rows(rt: HostRuntime) -> Result<(), Fail> {
+    let matrix = sample(rt.alloc())?;
+    assert!(rt; is_matrix(&matrix));
+    let part = split(rt.alloc(), &matrix, &Cyclic::block(3, 2), Axis::Col, 1)?;
+    assert_eq!(rt; (part.matrix.rows, part.matrix.cols), (4, 1));
+    assert_eq!(rt;
+        part.matrix.entries.as_slice(),
+        [entry(0, 0, 0), entry(3, 0, 9)].as_slice()
+    );
+    assert_eq!(rt; part.globals.as_slice(), [2].as_slice());
+    Ok(())
+}
+
+#[test]
+fn the_part_of_a_rank_without_indices_is_empty(rt: HostRuntime) -> Result<(), Fail> {
+    let matrix = sample(rt.alloc())?;
+    assert!(rt; is_matrix(&matrix));
+    let part = split(rt.alloc(), &matrix, &Cyclic::block(4, 64), Axis::Row, 63)?;
+    assert_eq!(rt; (part.matrix.rows, part.matrix.cols), (0, 3));
+    assert!(rt; part.matrix.entries.is_empty() && part.globals.is_empty());
+    Ok(())
+}

@@ -1,5 +1,0 @@
-use Rattle.std.proofs.Common.{IsTrue}
-use Rattle.bern_ports.proofs.tests.read_through.Given as goal
-
-abbrev pub invariant-loop : goal.invariant-loop
-invariant-loop g l = IsTrue (g.S.Shelf.begun l.shelf)

@@ -1,4 +1,0 @@
-use Rattle.bern_top.proofs.tests.outcome_of.Given as goal
-
-abbrev pub ghosts-counted : goal.ghosts-counted
-ghosts-counted g a = record { name = a.blank.name; parts = a.blank.parts }

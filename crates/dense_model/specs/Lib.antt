@@ -1,4 +1,0 @@
-pub mod ArrayText
-pub mod Dense
-pub mod State
-pub mod Sums

@@ -1,2 +1,0 @@
-//! What a job means, as definitions alone: states, points, the dense loops, printed texts. They stand in `specs/`.
-#![tactic(auto)]

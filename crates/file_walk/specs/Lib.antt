@@ -1,5 +1,0 @@
-pub mod Answers
-pub mod Mentions
-pub mod Walk
-pub mod Laws
-pub mod Serving

@@ -1,8 +1,0 @@
--- All speak of one run.
-use Rattle.interleave.proofs.turns.turn.Given as goal
-
-abbrev pub ghost-enabled : goal.ghost-enabled
-ghost-enabled g a = g.run
-
-abbrev pub ghost-step : goal.ghost-step
-ghost-step g a = g.run

@@ -1,0 +1,71 @@
+ghost use Rattle.std.specs.Prelude.{◌≡◌, ◌<◌, suc, length, true, false, IfOk, OnOk};
+ghost use Rattle.rank_scripts.specs.Scripts.{total};
+ghost use Rattle.rank_scripts.specs.Worlds.{start, done, left};
+ghost use Rattle.rank_model.specs.Products.{Run, scripts};
+ghost use Rattle.interleave.specs.Worlds.{world_of, IsWorld, IsAmong, AreAtEnd};
+
+use crate::event::{Event, StepError};
+use crate::world::World;
+use bern_base::{Items, NoMemory};
+use std::alloc::Global;
+
+/// Lets a world of new nodes go through all its events, in an order that the seed chooses, and answers the done world and
+/// the number of events.
+///
+/// Event n, from 0, is the one at place `(x(n+1) / 2^33) mod count` of those that are enabled, where `x(0)` is the seed and
+/// `x(n+1) = x(n) * 6364136223846793005 + 1442695040888963407` modulo 2^64.
+pub fn replay(alloc: Global, world: World, seed: u64) -> Result<(World, u64), NoMemory>
+    ghost run: { Run }
+    requires fit { IsWorld run world }
+    requires start { world_of run world ≡ start (scripts run) }
+    ensures fit { IfOk result (λ end. IsWorld run end.0) }
+    ensures done { IfOk result (λ end. done (scripts run) (world_of run end.0) ≡ true) }
+    ensures end { IfOk result (λ end. AreAtEnd run end.0.nodes) }
+    ensures events { IfOk result (λ end. end.1 ≡ total (scripts run)) }
+{
+    let mut world = world;
+    let mut choice = seed;
+    let mut count = 0;
+    'events: while !world.done() {
+        choice = next_choice(choice);
+        match next_event(alloc, &mut world, choice) {
+            Ok(()) => {}
+            Err(error) => return Err(error),
+        }
+        count += 1;
+    }
+    Ok((world, count))
+}
+
+fn next_choice(choice: u64) -> u64 {
+    choice
+        .wrapping_mul(6_364_136_223_846_793_005)
+        .wrapping_add(1_442_695_040_888_963_407)
+}
+
+/// Lets one of the enabled events happen.
+fn next_event(alloc: Global, world: &mut World, choice: u64) -> Result<(), NoMemory>
+    ghost run: { Run }
+    requires fit { IsWorld run world.old }
+    requires goes_on { done (scripts run) (world_of run world.old) ≡ false }
+    ensures fit { OnOk result (IsWorld run world.new) }
+    ensures left { OnOk result (suc (left (scripts run) (world_of run world.new)) ≡ left (scripts run) (world_of run world.old)) }
+{
+    let events = match world.enabled(alloc) {
+        Ok(events) => events,
+        Err(error) => return Err(error),
+    };
+    let event = chosen(&events, choice);
+    match world.step(alloc, event) {
+        Ok(()) => Ok(()),
+        Err(StepError::NoMemory) => Err(NoMemory),
+        Err(StepError::NotEnabled) => unreachable!(),
+    }
+}
+
+fn chosen(events: &Items<Event>, choice: u64) -> Event
+    requires { 0 < length events.now }
+    ensures { IsAmong result events.now }
+{
+    *events.at((choice >> 33) as usize % events.len())
+}

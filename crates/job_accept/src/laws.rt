@@ -1,0 +1,17 @@
+ghost use Rattle.std.specs.Prelude.{ℕ, List};
+ghost use Rattle.bern_base.specs.declared.job.Checked.{Checked};
+ghost use Rattle.job_model.specs.Accepted.{IsAccepted};
+ghost use Rattle.job_accept.specs.Front.{AcceptsBytes};
+ghost use Rattle.job_accept.specs.Unbuilt.{BuiltBytesHaveOneAnswer};
+
+/// The law that bytes have one answer of [`take_built_job`](crate::take_built_job): one job, or one line and rule, and
+/// never both. It does nothing.
+pub fn built_bytes_have_one_answer()
+    ensures { BuiltBytesHaveOneAnswer }
+{}
+
+/// The law that what bytes are accepted as keeps all rules: its numbers name items of its own lists, sizes and counts are
+/// within their limits, and each nest stays inside its arrays. It does nothing.
+pub fn accepted_bytes_keep_the_rules()
+    ensures { (bytes : List ℕ) (job : Checked) → AcceptsBytes bytes job → IsAccepted job }
+{}

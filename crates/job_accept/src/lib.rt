@@ -1,0 +1,11 @@
+//! A job from its bytes: read, its rules tried, its names turned into numbers.
+//!
+//! Lines count from 1; line 0 stands for the job as a whole.
+#![tactic(auto)]
+
+mod front;
+mod laws;
+mod unbuilt;
+
+pub use front::{take_built_job, take_job, too_long};
+pub use laws::{accepted_bytes_keep_the_rules, built_bytes_have_one_answer};

@@ -1,0 +1,10 @@
+pub mod ShelfLemmas
+pub mod ReadingLemmas
+pub mod LoadingLemmas
+pub mod DiagonalLemmas
+pub mod MentionLemmas
+pub mod WeightLemmas
+pub mod ServingLemmas
+pub mod TotalLemmas
+pub mod ArrayLemmas
+pub mod JobLemmas

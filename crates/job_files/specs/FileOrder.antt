@@ -1,0 +1,144 @@
+-- The order of a job's files and of the F rules: the files by first mention, each with the rules of its uses and then the weight.
+-- It ends with the matrix of each use, or stops at the first refusal or at a file that is not there.
+use Rattle.std.specs.Prelude.{◌≡◌, ℕ, ◌+◌, ◌*◌, ◌≤◌, Bool, ◌&&◌, ◌==◌, nat_lt, if◌then◌else◌, List, [], ◌∷◌, ◌++◌, length, Option, Some, None, Result, Ok, Err, ⊤}
+use Rattle.std.specs.List.{AllZip, count_by}
+use Rattle.bern_base.specs.Matrix.{IsMatrix}
+use Rattle.bern_base.specs.declared.job.Checked.{Checked}
+use Rattle.bern_base.specs.declared.limits.TheConstants.{MOST_WEIGHT}
+use Rattle.bern_base.specs.declared.matrix.Matrix.{Matrix}
+use Rattle.bern_base.specs.declared.refusal.Rule.{Rule}
+use Rattle.bern_base.specs.declared.refusal.Rule.TheVariants.{F1, F7}
+use Rattle.bern_base.specs.declared.refusal.Refusal.{Refusal}
+use Rattle.bern_base.specs.declared.refusal.Refusal.TheVariants.{File}
+use Rattle.bern_ports.specs.Files.{Files, bytes_of}
+use Rattle.mm_profile.specs.Profile.{Fault, mm, and_then}
+use Rattle.job_files.specs.Uses.{entries_in, file_of, is_of, matrices_from, mentioned, uses_of}
+use Rattle.job_files.specs.Weight.{weight_of}
+use Rattle.job_files.specs.declared.load_error.LoadError.{LoadError}
+use Rattle.job_files.specs.declared.load_error.LoadError.TheVariants as e
+use Rattle.job_files.specs.declared.uses.Use.{Use}
+use Rattle.job_files.specs.declared.uses.Use.TheVariants as by
+
+-- why loading stops: a refusal, or a file that is not there
+pub data Stop : Type 0 where
+  Refused : (refusal : Refusal) → Stop
+  Missing : (name : List ℕ) → Stop
+
+-- a matrix is of these sizes
+abbrev pub has_sizes : ℕ → ℕ → Matrix → Bool
+has_sizes rows cols m = m.rows == rows && m.cols == cols
+
+-- the rule that a file's matrix breaks in a use; for an array it is F1: its rows and columns are the array's
+abbrev pub broken_rule : Matrix → Use → Option Rule
+broken_rule m (by.Array file rows cols) = if has_sizes rows cols m then None else Some F1
+
+-- a use of another file asks nothing
+abbrev pub broken_in : List ℕ → Matrix → Use → Option Rule
+broken_in name m u = if is_of name u then broken_rule m u else None
+
+abbrev pub first_of : Option Rule → Option Rule → Option Rule
+first_of None later = later
+first_of (Some rule) later = Some rule
+
+-- the first rule that a file's matrix breaks, over the uses of the file in their order
+abbrev pub first_broken : List ℕ → Matrix → List Use → Option Rule
+first_broken name m [] = None
+first_broken name m (u ∷ uses) = first_of (broken_in name m u) (first_broken name m uses)
+
+-- rules of uses are told of the file as a whole, which is line 0
+abbrev pub judged : List ℕ → Matrix → Option Rule → Result Matrix Stop
+judged name m None = Ok m
+judged name m (Some rule) = Err (Refused (File name 0 rule))
+
+-- a file has a matrix, or it is refused at its first broken rule
+abbrev pub has : List Use → List ℕ → Result Matrix Fault → Result Matrix Stop
+has uses name (Ok m) = judged name m (first_broken name m uses)
+has uses name (Err fault) = Err (Refused (File name fault.0 fault.1))
+
+-- a file is there, or it is not
+abbrev pub found : List Use → List ℕ → Option (List ℕ) → Result Matrix Stop
+found uses name None = Err (Missing name)
+found uses name (Some bytes) = has uses name (mm bytes)
+
+-- the matrix with which a file serves all of its uses, or why it does not
+abbrev pub served : Files → List Use → List ℕ → Result Matrix Stop
+served files uses name = found uses name (bytes_of files name)
+
+-- how much a file adds to the weight: the entries of its matrix, once for each of its uses
+abbrev pub added : List Use → List ℕ → Matrix → ℕ
+added uses name m = count_by (is_of name) uses * length m.entries
+
+-- rule F7: the weight with a file is within the limit
+abbrev pub within_limit : List ℕ → ℕ → Result ℕ Stop
+within_limit name weight = if nat_lt MOST_WEIGHT weight then Err (Refused (File name 0 F7)) else Ok weight
+
+-- the weight with one more file, or why loading stops at it
+abbrev pub weight_with : Files → List Use → ℕ → List ℕ → Result ℕ Stop
+weight_with files uses weight name = and_then (served files uses name) (λ m. within_limit name (weight + added uses name m))
+
+-- the weight after these files, or the first reason to stop
+abbrev pub weight_after : Files → List Use → ℕ → List (List ℕ) → Result ℕ Stop
+weight_after files uses weight [] = Ok weight
+weight_after files uses weight (name ∷ names) = and_then (weight_with files uses weight name) (λ sum. weight_after files uses sum names)
+
+-- why loading stops, where it does
+abbrev pub stop_of : {X : Type 0} → Result X Stop → Option Stop
+stop_of (Ok x) = None
+stop_of (Err stop) = Some stop
+
+-- the first reason to stop at these files, from a weight on
+abbrev pub stops : Files → List Use → ℕ → List (List ℕ) → Option Stop
+stops files uses weight names = stop_of (weight_after files uses weight names)
+
+-- and at the files of all uses, by first mention, from the weight of the arrays without files on
+abbrev pub stop_of_uses : Files → ℕ → List Use → Option Stop
+stop_of_uses files weight uses = stops files uses weight (mentioned uses)
+
+-- the order of a job's F rules on so many ranks: F7 without files, of the job file, and then the files
+abbrev pub stop_of_files : Files → List ℕ → ℕ → Checked → Option Stop
+stop_of_files files name ranks job =
+    if nat_lt MOST_WEIGHT (weight_of job ranks) then Some (Refused (File name 0 F7))
+    else stop_of_uses files (weight_of job ranks) (uses_of job.arrays)
+
+-- a file of this name is reached: it is that of a use, and no file that is mentioned before stops the loading
+pub record ReachesUse (files : Files) (weight : ℕ) (uses : List Use) (name : List ℕ) : Type 0 where
+  pub before : List (List ℕ)
+  pub later : List (List ℕ)
+  pub are : mentioned uses ≡ before ++ name ∷ later
+  pub fine : stops files uses weight before ≡ None
+
+-- a file of this name is reached by the order of a job's files
+pub record Reaches (files : Files) (ranks : ℕ) (job : Checked) (name : List ℕ) : Type 0 where
+  pub light : weight_of job ranks ≤ MOST_WEIGHT
+  pub reached : ReachesUse files (weight_of job ranks) (uses_of job.arrays) name
+
+-- what a use asks of a matrix, beside that it is one
+abbrev pub Suits : Use → Matrix → Type 0
+Suits (by.Array file rows cols) m = (m.rows ≡ rows) × (m.cols ≡ cols)
+
+pub record IsForUse (u : Use) (m : Matrix) : Type 0 where
+  pub matrix : IsMatrix m
+  pub suits : Suits u m
+
+-- the matrix of the file of a use, as the use asks it
+pub record IsOfUse (files : Files) (u : Use) (m : Matrix) : Type 0 where
+  pub bytes : List ℕ
+  pub there : bytes_of files (file_of u) ≡ Some bytes
+  pub read : mm bytes ≡ Ok m
+  pub suits : Suits u m
+
+-- the answer for these uses: where nothing stops it the matrix of each use, else the refusal, or a fault at a file that is
+-- reached; want of memory is free
+abbrev pub LoadsUses : Files → ℕ → List Use → Result (List Matrix) LoadError → Type 0
+LoadsUses files weight uses (Ok ms) = (stop_of_uses files weight uses ≡ None) × AllZip (IsOfUse files) uses ms
+LoadsUses files weight uses (Err (e.Refused refusal)) = stop_of_uses files weight uses ≡ Some (Refused refusal)
+LoadsUses files weight uses (Err (e.ReadFault file)) = ReachesUse files weight uses file
+LoadsUses files weight uses (Err e.NoMemory) = ⊤
+
+-- the answer for a job: where nothing stops it the matrices of all arrays, else the first refusal, or a fault at a file that is
+-- reached; want of memory is free
+abbrev pub Loads : Files → List ℕ → ℕ → Checked → Result (List Matrix) LoadError → Type 0
+Loads files name ranks job (Ok ms) = (stop_of_files files name ranks job ≡ None) × (ms ≡ matrices_from (entries_in files) job.arrays)
+Loads files name ranks job (Err (e.Refused refusal)) = stop_of_files files name ranks job ≡ Some (Refused refusal)
+Loads files name ranks job (Err (e.ReadFault file)) = Reaches files ranks job file
+Loads files name ranks job (Err e.NoMemory) = ⊤

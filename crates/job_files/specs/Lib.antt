@@ -1,0 +1,6 @@
+pub mod Uses
+pub mod Weight
+pub mod Answers
+pub mod FileOrder
+pub mod Serving
+pub mod Laws

@@ -1,4 +1,0 @@
-pub mod ReadableLemmas
-pub mod AnswerLemmas
-pub mod LevelLemmas
-pub mod RunLemmas

@@ -1,3 +1,0 @@
-pub mod CanRun
-pub mod Front
-pub mod Unbuilt

@@ -1,5 +1,0 @@
-use Rattle.mm_text.proofs.PrintedArrayLemmas.{reads-printed-arrays}
-use Rattle.mm_text.proofs.printed.printed_arrays_are_read.Goals as goal
-
-pub returns : goal.returns
-returns c = reads-printed-arrays

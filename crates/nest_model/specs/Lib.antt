@@ -1,5 +1,0 @@
-pub mod Elements
-pub mod Nests
-pub mod Points
-pub mod Runnable
-pub mod Values

@@ -1,5 +1,0 @@
-use Rattle.placement.proofs.ElementLemmas.{elements-are-owned-once}
-use Rattle.placement.proofs.part.elements_are_owned_once.Goals as goal
-
-pub returns : goal.returns
-returns c = elements-are-owned-once

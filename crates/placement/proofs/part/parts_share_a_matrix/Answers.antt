@@ -1,5 +1,0 @@
-use Rattle.placement.proofs.PartLemmas.{parts-share-a-matrix}
-use Rattle.placement.proofs.part.parts_share_a_matrix.Goals as goal
-
-pub returns : goal.returns
-returns c = parts-share-a-matrix

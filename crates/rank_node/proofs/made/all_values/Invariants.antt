@@ -1,6 +1,0 @@
--- The values of the arrays so far.
-use Rattle.rank_node.specs.Made.{AreHeld}
-use Rattle.rank_node.proofs.made.all_values.Given as goal
-
-abbrev pub invariant-loop-at : goal.invariant-loop-at
-invariant-loop-at l = AreHeld l.job l.parts l.at l.values.items

@@ -1,8 +1,0 @@
-use Rattle.rank_scripts.proofs.WaitLemmas.{has_all-round, behind-round}
-use Rattle.rank_scripts.proofs.waits_name_their_round.Goals as goal
-
-pub returns-clause-wait : goal.returns-clause-wait
-returns-clause-wait c = has_all-round
-
-pub returns-clause-stop : goal.returns-clause-stop
-returns-clause-stop c = behind-round
