@@ -15,6 +15,7 @@ mod memory;
 mod raw;
 mod refusal;
 mod shape;
+mod stats;
 mod steps;
 mod text;
 mod val;
@@ -42,6 +43,7 @@ pub use raw::{
 };
 pub use refusal::{Refusal, Rule};
 pub use shape::Shape;
+pub use stats::{LevelStat, Stats};
 pub use steps::Steps;
 pub use text::Text;
 pub use val::Val;
