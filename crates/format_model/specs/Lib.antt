@@ -1,6 +1,7 @@
 pub mod Axes
 pub mod Content
 pub mod Estimates
+pub mod Grids
 pub mod Levels
 pub mod Made
 pub mod Stored

@@ -70,10 +70,3 @@ content t = content_by (depth_of t) t
 pub record Describes (t : Tree) (s : Shape) (globals order : List ℕ) (m : Matrix) : Type 0 where
   pub levels : t.levels ≡ levels_of s
   pub content : content t ≡ content_of s globals order m
-
--- the elements of a part that is stored whole: the index of each of its rows and columns, and the values by local element number,
--- which is the place of the row * the number of columns + the place of the column
-pub record Grid : Type 0 where
-  pub rows : List ℕ
-  pub cols : List ℕ
-  pub values : List ℕ

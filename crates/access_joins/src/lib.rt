@@ -1,0 +1,12 @@
+//! What a stored array lets a loop do: go over the children of a parent level by level, search among them, and read values.
+//!
+//! Levels count from 0, the outer one first. Indices count from 0: a row, a column, or row * cols + col.
+#![tactic(auto)]
+
+mod access;
+mod cells;
+mod line;
+
+pub use access::Access;
+pub use cells::Cells;
+pub use line::Line;
