@@ -1,4 +1,5 @@
 pub mod Axes
+pub mod Checks
 pub mod Content
 pub mod Estimates
 pub mod Grids

@@ -1,0 +1,13 @@
+//! The formats of arrays in one place: which matrices suit them, what is known of them before a loop runs, and any store
+//! behind one type.
+//!
+//! Rows, columns and element numbers count from 0.
+#![tactic(auto)]
+
+mod bits;
+mod checks;
+mod filled;
+mod stats;
+
+pub use checks::{check_shape, check_sizes};
+pub use stats::stats;
