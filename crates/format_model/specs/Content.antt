@@ -31,9 +31,13 @@ lines_of a m lines = map (λ l. (l, map (leaf_on (across a) m.cols) (in_line a m
 abbrev pub all_lines : Axis → Matrix → List ℕ
 all_lines a m = range_with_len 0 (extent_of a m.rows m.cols)
 
+-- a line has an entry
+abbrev pub is_filled : Axis → ℕ → List Entry → ℕ → Bool
+is_filled a cols entries line = list_any (λ e. index_of a cols e == line) entries
+
 -- those that have an entry
 abbrev pub filled_lines : Axis → Matrix → List ℕ
-filled_lines a m = filter (λ l. list_any (λ e. index_of a m.cols e == l) m.entries) (all_lines a m)
+filled_lines a m = filter (is_filled a m.cols m.entries) (all_lines a m)
 
 -- how many entries a row has
 abbrev pub count_in_row : Matrix → ℕ → ℕ

@@ -1,7 +1,7 @@
-ghost use Rattle.std.specs.Prelude.{◌≡◌, ℤ, slice_index};
+ghost use Rattle.std.specs.Prelude.{◌≡◌};
 ghost use Rattle.std.specs.List.{list_any};
 ghost use Rattle.std.specs.Result.{result_err};
-ghost use Rattle.format_model.specs.Checks.{astray_rule, has_sizes, is_astray, shape_rule, sizes_rule};
+ghost use Rattle.format_model.specs.Checks.{astray_rule, has_astray, is_astray, shape_rule, sizes_rule};
 ghost use Rattle.format_model.specs.Stored.{is_on_diagonal};
 
 use bern_base::{ArrayDecl, Entry, FormatDecl, Matrix, Rule, Shape};
@@ -30,25 +30,32 @@ pub fn check_sizes(rows: u32, cols: u32, matrix: &Matrix) -> Result<(), Rule>
 fn check_diagonals(shape: &Shape, matrix: &Matrix) -> Result<(), Rule>
     ensures { result_err result ≡ astray_rule shape.now matrix.now }
 {
-    match shape {
-        Shape::Diagonal(offsets) => check_offsets(offsets.as_slice(), matrix.entries.as_slice()),
-        _ => Ok(()),
-    }
-}
-
-fn check_offsets(offsets: &[i64], entries: &[Entry]) -> Result<(), Rule>
-    ensures { result_err result ≡ astray_rule (Shape.Diagonal offsets.now) (record { rows = 0; cols = 0; entries = entries.now }) }
-{
-    if entries.iter().any(|entry| is_astray(offsets, entry)) {
+    if has_astray(shape, matrix.entries.as_slice()) {
         Err(Rule::F2)
     } else {
         Ok(())
     }
 }
 
+/// Whether a diagonal format has no place for some entry with a value that is not 0.
+fn has_astray(shape: &Shape, entries: &[Entry]) -> bool
+    ensures { result ≡ has_astray shape.now entries.now }
+{
+    match shape {
+        Shape::Diagonal(offsets) => any_astray(offsets.as_slice(), entries),
+        _ => false,
+    }
+}
+
+fn any_astray(offsets: &[i64], entries: &[Entry]) -> bool
+    ensures { result ≡ list_any (is_astray offsets.now) entries.now }
+{
+    entries.iter().any(|entry| is_astray(offsets, entry))
+}
+
 /// Whether an entry off the diagonals of these offsets has a value that is not 0.
 fn is_astray(offsets: &[i64], entry: &Entry) -> bool
-    ensures { result ≡ is_astray (Shape.Diagonal offsets.now) entry.now }
+    ensures { result ≡ is_astray offsets.now entry.now }
 {
     entry.value.bits() != 0 && !is_on_diagonal(offsets, entry.row, entry.col)
 }

@@ -4,10 +4,10 @@
 //! Rows, columns and element numbers count from 0.
 #![tactic(auto)]
 
-mod bits;
 mod checks;
+mod digits;
 mod filled;
-mod stats;
+mod statistics;
 
 pub use checks::{check_shape, check_sizes};
-pub use stats::stats;
+pub use statistics::stats;

@@ -1,0 +1,2 @@
+pub use Rattle.format_model.specs.Checks
+pub use Rattle.format_model.specs.Estimates
