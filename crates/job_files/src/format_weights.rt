@@ -1,8 +1,9 @@
 ghost use Rattle.std.specs.Prelude.{◌≡◌, ◌*◌};
 ghost use Rattle.std.specs.List.{sum_by};
-ghost use Rattle.job_files.specs.Weight.{diagonal_len, extent_on, lines_weight, same_axis, shape_weight};
+ghost use Rattle.format_model.specs.Weights.{diagonal_len, extent_on, lines_weight, shape_weight};
 
 use bern_base::{ArrayDecl, Axis, Shape};
+use format_model::{extent_of, is_same_axis};
 
 /// What an array weighs in this format.
 pub(crate) fn shape_weight(shape: &Shape, ranks: u32, array: &ArrayDecl) -> u128
@@ -17,21 +18,11 @@ pub(crate) fn shape_weight(shape: &Shape, ranks: u32, array: &ArrayDecl) -> u128
     }
 }
 
-fn same_axis(one: Axis, other: Axis) -> bool
-    ensures { result ≡ same_axis one other }
-{
-    one == other
-}
-
 /// How many indices an axis of an array has.
 fn extent_on(axis: Axis, array: &ArrayDecl) -> u64
     ensures { result ≡ extent_on axis array.now }
 {
-    match axis {
-        Axis::Row => array.rows as u64,
-        Axis::Col => array.cols as u64,
-        Axis::Both => array.rows as u64 * array.cols as u64,
-    }
+    extent_of(axis, array.rows, array.cols)
 }
 
 /// The lines of a dense outer level: an array that is split along the packed axis has all of them at each rank.
@@ -39,7 +30,7 @@ fn lines_weight(outer: Axis, ranks: u32, array: &ArrayDecl) -> u128
     ensures { result ≡ lines_weight outer ranks array.now }
 {
     let lines = extent_on(outer, array) as u128;
-    if same_axis(array.axis, outer) {
+    if is_same_axis(array.axis, outer) {
         lines
     } else {
         lines * ranks as u128

@@ -1,8 +1,8 @@
 -- The diagonals so far, each of which has at most as many elements as a u64 holds.
 use Rattle.std.proofs.Common.{◌≡◌, ◌*◌, ◌^◌, ◌≤◌, take}
 use Rattle.std.specs.List.{sum_by}
-use Rattle.job_files.specs.Weight.{diagonal_len}
-use Rattle.job_files.proofs.formats.diagonals_weight.Given as goal
+use Rattle.format_model.specs.Weights.{diagonal_len}
+use Rattle.job_files.proofs.format_weights.diagonals_weight.Given as goal
 
 abbrev pub invariant-diagonals : goal.invariant-diagonals
 invariant-diagonals l = record {

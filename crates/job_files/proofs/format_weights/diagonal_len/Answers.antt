@@ -2,7 +2,7 @@ use Rattle.std.proofs.Common.{◌-◌, ◌≤ℤ◌, ◌<ℤ◌, pos, min, w64, 
 use Rattle.std.specs.Int.RustNames.{unsigned_abs}
 use Rattle.std.proofs.lemmas.Int.{ints, to_z-of_z}
 use Rattle.job_files.proofs.DiagonalLemmas.{diagonal_left, diagonal_right}
-use Rattle.job_files.proofs.formats.diagonal_len.Goals as goal
+use Rattle.job_files.proofs.format_weights.diagonal_len.Goals as goal
 
 pub returns-then-offset-lt0 : goal.returns-then-offset-lt0
 returns-then-offset-lt0 c =

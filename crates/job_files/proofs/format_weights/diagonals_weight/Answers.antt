@@ -1,8 +1,8 @@
 use Rattle.std.proofs.Common.{◌≡◌, get_or, ap, ◌∙◌, arith, rules, ℤ, pos, FitsSigned, w64}
 use Rattle.std.proofs.lemmas.List.Sums.{sum_by_more}
 use Rattle.std.proofs.lemmas.Int.{to_z-of_z}
-use Rattle.job_files.specs.Weight.{diagonal_len}
-use Rattle.job_files.proofs.formats.diagonals_weight.Goals as goal
+use Rattle.format_model.specs.Weights.{diagonal_len}
+use Rattle.job_files.proofs.format_weights.diagonals_weight.Goals as goal
 
 pub diagonals-preserved : goal.diagonals-preserved
 diagonals-preserved c =
