@@ -1,0 +1,2 @@
+pub mod CountExamples
+pub mod Examples
