@@ -1,2 +1,3 @@
 pub mod CountExamples
 pub mod Examples
+pub mod SearchLemmas

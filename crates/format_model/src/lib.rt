@@ -1,9 +1,11 @@
 //! How arrays are stored, as definitions alone: the table of all formats, and what a stored array is to those who walk and
-//! search it. They stand in `specs/`.
+//! search it. They stand in `specs/`; `laws` says what is proved of them.
 //!
 //! Rows, columns and element numbers count from 0.
 #![tactic(auto)]
 
+mod laws;
 mod limits;
 
+pub use laws::searches_find_the_content;
 pub use limits::MOST_INDEX;
