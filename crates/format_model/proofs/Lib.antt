@@ -1,3 +1,10 @@
+pub mod ContentLemmas
 pub mod CountExamples
+pub mod DenseLemmas
+pub mod DiagonalLemmas
 pub mod Examples
+pub mod GridLemmas
+pub mod LineLemmas
+pub mod OnceLemmas
+pub mod OrderLemmas
 pub mod SearchLemmas

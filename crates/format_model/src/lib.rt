@@ -7,5 +7,5 @@
 mod laws;
 mod limits;
 
-pub use laws::searches_find_the_content;
+pub use laws::{each_stored_element_once, searches_find_the_content};
 pub use limits::MOST_INDEX;
