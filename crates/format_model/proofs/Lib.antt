@@ -1,3 +1,4 @@
+pub mod AgreeLemmas
 pub mod ContentLemmas
 pub mod CountExamples
 pub mod DenseLemmas
@@ -5,6 +6,8 @@ pub mod DiagonalLemmas
 pub mod Examples
 pub mod GridLemmas
 pub mod LineLemmas
+pub mod LookupLemmas
 pub mod OnceLemmas
 pub mod OrderLemmas
 pub mod SearchLemmas
+pub mod ValueLemmas

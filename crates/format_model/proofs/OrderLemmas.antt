@@ -17,7 +17,7 @@ use Rattle.format_model.proofs.ContentLemmas.{count-filter, once_in_range}
 use Rattle.format_model.proofs.LineLemmas.{count_of}
 
 -- a filter keeps no number that fails
-count-filter_none : (p : ℕ → Bool) (x : ℕ) (xs : List ℕ) → p x ≡ false → count_of x (filter p xs) ≡ 0
+pub count-filter_none : (p : ℕ → Bool) (x : ℕ) (xs : List ℕ) → p x ≡ false → count_of x (filter p xs) ≡ 0
 count-filter_none p x [] fails = refl
 count-filter_none p x (y ∷ xs) fails =
     let kept : List ℕ = filter p xs in
@@ -36,7 +36,7 @@ count-filter_none p x (y ∷ xs) fails =
 few_in_row : (m : Matrix) (row : ℕ) → count_in_row m row ≤ length m.entries
 few_in_row m row = subst (λ n. n ≤ length m.entries) (sym (length-filter (λ e. e.row == row) m.entries)) (count_by-le-length (λ e. e.row == row) m.entries)
 
-once_by_count : (m : Matrix) (row : ℕ) → row < m.rows → count_of row (rows_by_count m) ≡ 1
+pub once_by_count : (m : Matrix) (row : ℕ) → row < m.rows → count_of row (rows_by_count m) ≡ 1
 once_by_count m row inside =
     let most : ℕ = length m.entries in
     let count : ℕ = count_in_row m row in
@@ -83,7 +83,7 @@ position_of globals k rising within =
 position_other : (globals : List ℕ) (k row : ℕ) → (row ≡ get_or globals k 0 → ⊥) → position (λ g. g == row) globals ≡ Some k → ⊥
 position_other globals k row other found = other (sym (eqb-true (get_or globals k 0) row (position-Some (λ g. g == row) globals k 0 found).1))
 
-once_in_order : (globals order : List ℕ) (m : Matrix) (rows k : ℕ) → OrdersRows globals order m rows → k < m.rows → count_of k (local_rows globals order) ≡ 1
+pub once_in_order : (globals order : List ℕ) (m : Matrix) (rows k : ℕ) → OrdersRows globals order m rows → k < m.rows → count_of k (local_rows globals order) ≡ 1
 once_in_order globals order m rows k orders inside =
     let row : ℕ = get_or globals k 0 in
     let within : k < length globals = subst (λ n. k < n) (sym orders.long) inside in

@@ -1,16 +1,16 @@
 -- Laws of the table of formats and of trees.
-use Rattle.std.specs.Prelude.{◌≡◌, ◌≢◌, ℕ, suc, ◌<◌, ◌≤◌, ◌<ℤ◌, List, [], ◌∷◌, length, Option, Some}
+use Rattle.std.specs.Prelude.{◌≡◌, ◌≢◌, ℕ, suc, ◌<◌, ◌≤◌, ◌<ℤ◌, List, [], ◌∷◌, length, Option, Some, None, ◌^◌, if◌then◌else◌}
 use Rattle.std.specs.List.{All, AllPairs, range_with_len}
 use Rattle.std.specs.List.Sorted.{IsPermutation, IsStrictlyIncreasing}
 use Rattle.std.specs.Option.{option_and_then, option_map}
-use Rattle.bern_base.specs.Matrix.{IsMatrix}
+use Rattle.bern_base.specs.Matrix.{IsMatrix, element, number}
 use Rattle.bern_base.specs.declared.axes.Axis.{Axis}
 use Rattle.bern_base.specs.declared.axes.Axis.TheVariants as axis
 use Rattle.bern_base.specs.declared.matrix.Matrix.{Matrix}
 use Rattle.bern_base.specs.declared.shape.Shape.{Shape}
 use Rattle.bern_base.specs.declared.shape.Shape.TheVariants as shape
 use Rattle.format_model.specs.Content.{content_of}
-use Rattle.format_model.specs.Elements.{elements_of, path_of, value_among, value_at}
+use Rattle.format_model.specs.Elements.{elements_of, entry_at, path_of, value_among, value_at}
 use Rattle.format_model.specs.Stored.{has_entry_at, is_stored, stored_elements}
 use Rattle.format_model.specs.Trees.{Tree, child_at, content, depth_of}
 
@@ -67,6 +67,13 @@ abbrev pub ListsTheStoredValues : Type 0
 ListsTheStoredValues =
     (s : Shape) (globals order : List ℕ) (m : Matrix) → IsMatrix m → Suits s globals order m → (row col : ℕ) → row < m.rows → col < m.cols →
     value_at (content_of s globals order m) (path_of s m.cols row col) ≡ value_among (stored_elements s globals m) row col
+
+-- a stored element has the value of the matrix there, where values fit 64 bits
+abbrev pub StoredElementsHaveTheirValues : Type 0
+StoredElementsHaveTheirValues =
+    (s : Shape) (globals : List ℕ) (m : Matrix) → IsMatrix m → All (λ e. e.value < 2 ^ 64) m.entries → (row col : ℕ) → row < m.rows → col < m.cols →
+    value_among (stored_elements s globals m) row col ≡
+    (if has_entry_at (stored_elements s globals m) row col then Some (element m.cols m.entries (number m.cols (entry_at row col 0))) else None)
 
 -- the test of one element of a whole matrix agrees with the list of its stored elements
 abbrev pub TheTestAgreesWithTheList : Type 0
