@@ -7,10 +7,8 @@ use Rattle.bern_base.specs.declared.shape.Shape.{Shape}
 use Rattle.bern_base.specs.declared.shape.Shape.TheVariants as shape
 use Rattle.format_model.specs.Content.{content_of, One, Two, rows_by_count, diagonal_columns}
 use Rattle.format_model.specs.Levels.{levels_of, Direct, Binary, Linear}
-use Rattle.format_model.specs.Stored.{is_stored, stored_elements}
 use Rattle.format_model.specs.Content.{content_of, One, Two, rows_by_count, diagonal_columns}
 use Rattle.format_model.specs.Levels.{levels_of, Direct, Binary, Linear}
-use Rattle.format_model.specs.Stored.{is_stored, stored_elements}
 
 abbrev pub entry : ℕ → ℕ → ℕ → Entry
 entry row col value = record { row = row; col = col; value = value }
@@ -146,23 +144,3 @@ levels_are : map levels_of (shape.ListTwo ∷ shape.DensePacked axis.Col ∷ sha
     ∷ (record { axis = axis.Row; ordered = false; lookup = Direct } ∷ record { axis = axis.Col; ordered = true; lookup = Binary } ∷ [])
     ∷ []
 levels_are = refl
-
--- ---- stored elements
-
-stored_on_diagonals : stored_elements three_diagonals (1 ∷ 2 ∷ []) last_rows ≡ entry 0 0 3 ∷ entry 0 1 0 ∷ entry 1 1 0 ∷ entry 1 2 4 ∷ []
-stored_on_diagonals = refl
-
-stored_where_dense : stored_elements (shape.DenseDense axis.Col) (0 ∷ 1 ∷ []) zeroed ≡ entry 0 0 0 ∷ entry 0 1 0 ∷ entry 1 0 0 ∷ entry 1 1 0 ∷ []
-stored_where_dense = refl
-
-one_is_stored : is_stored three_diagonals [] 2 1 ≡ true
-one_is_stored = refl
-
-one_is_not : is_stored three_diagonals [] 1 2 ≡ false
-one_is_not = refl
-
-an_entry_is_stored : is_stored shape.Jagged (entry 1 0 0 ∷ []) 1 0 ≡ true
-an_entry_is_stored = refl
-
-its_neighbour_is_not : is_stored shape.Jagged (entry 1 0 0 ∷ []) 0 1 ≡ false
-its_neighbour_is_not = refl

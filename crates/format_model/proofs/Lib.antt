@@ -2,7 +2,10 @@ pub mod AgreeLemmas
 pub mod ContentLemmas
 pub mod CountExamples
 pub mod DenseLemmas
+pub mod DescribesLemmas
 pub mod DiagonalLemmas
+pub mod DigitLemmas
+pub mod ElementExamples
 pub mod Examples
 pub mod GridLemmas
 pub mod LineLemmas

@@ -1,5 +1,5 @@
 -- Laws of the table of formats and of trees.
-use Rattle.std.specs.Prelude.{◌≡◌, ◌≢◌, ℕ, suc, ◌<◌, ◌≤◌, ◌<ℤ◌, List, [], ◌∷◌, length, Option, Some, None, ◌^◌, if◌then◌else◌}
+use Rattle.std.specs.Prelude.{◌≡◌, ◌≢◌, ℕ, suc, ◌*◌, ◌<◌, ◌≤◌, ◌<ℤ◌, List, [], ◌∷◌, length, Option, Some, None, ◌^◌, if◌then◌else◌}
 use Rattle.std.specs.List.{All, AllPairs, range_with_len}
 use Rattle.std.specs.List.Sorted.{IsPermutation, IsStrictlyIncreasing}
 use Rattle.std.specs.Option.{option_and_then, option_map}
@@ -11,8 +11,9 @@ use Rattle.bern_base.specs.declared.shape.Shape.{Shape}
 use Rattle.bern_base.specs.declared.shape.Shape.TheVariants as shape
 use Rattle.format_model.specs.Content.{content_of}
 use Rattle.format_model.specs.Elements.{elements_of, entry_at, path_of, value_among, value_at}
+use Rattle.format_model.specs.Levels.{bits}
 use Rattle.format_model.specs.Stored.{has_entry_at, is_stored, stored_elements}
-use Rattle.format_model.specs.Trees.{Tree, child_at, content, depth_of}
+use Rattle.format_model.specs.Trees.{Describes, Tree, child_at, content, depth_of}
 
 -- ---- searches
 
@@ -28,6 +29,10 @@ searched t path = option_map t.value (reached t 0 0 path)
 -- searching each level for its index finds a leaf where the tree's list has these indices, with the value there
 abbrev pub SearchesFindTheContent : Type 0
 SearchesFindTheContent = (t : Tree) (path : List ℕ) → 0 < depth_of t → depth_of t ≤ 2 → length path ≡ depth_of t → searched t path ≡ value_at (content t) path
+
+-- the digits of a number in base 2 are as many as `bits` says: the power of two of that many is above it, and that of one less is not
+abbrev pub BitsCountDigits : Type 0
+BitsCountDigits = (n : ℕ) → (n < 2 ^ bits n) × (0 < n → 2 ^ bits n ≤ 2 * n)
 
 -- ---- what a part must be for a format
 
@@ -80,3 +85,16 @@ abbrev pub TheTestAgreesWithTheList : Type 0
 TheTestAgreesWithTheList =
     (s : Shape) (m : Matrix) (row col : ℕ) → row < m.rows → col < m.cols →
     has_entry_at (stored_elements s (range_with_len 0 m.rows) m) row col ≡ is_stored s m.entries row col
+
+-- ---- trees that describe a part
+
+-- the paths of a tree, turned into elements of the part, are the stored elements, each once with its value, and searches for the
+-- indices of an element find its value where it is stored
+pub record HoldsTheStoredElements (t : Tree) (s : Shape) (globals : List ℕ) (m : Matrix) : Type 0 where
+  pub once : IsPermutation (stored_elements s globals m) (elements_of s m.cols (content t))
+  pub found : (row col : ℕ) → row < m.rows → col < m.cols → searched t (path_of s m.cols row col) ≡ value_among (stored_elements s globals m) row col
+
+abbrev pub DescribedPartsAreHeld : Type 0
+DescribedPartsAreHeld =
+    (t : Tree) (s : Shape) (globals order : List ℕ) (m : Matrix) → Describes t s globals order m → IsMatrix m → Suits s globals order m →
+    HoldsTheStoredElements t s globals m

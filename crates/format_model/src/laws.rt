@@ -1,12 +1,24 @@
 //! Laws of the table of formats and of trees. Each function does nothing: its contract is the law.
 
 ghost use Rattle.format_model.specs.Laws.{
+  BitsCountDigits,
+  DescribedPartsAreHeld,
   EachStoredElementOnce,
   ListsTheStoredValues,
   SearchesFindTheContent,
   StoredElementsHaveTheirValues,
   TheTestAgreesWithTheList,
 };
+
+/// The weight of a search by halving is the number of binary digits of the count.
+pub fn bits_count_digits()
+    ensures { BitsCountDigits }
+{}
+
+/// A tree that describes a part has each stored element once, with its value, and searches find exactly these.
+pub fn described_parts_are_held()
+    ensures { DescribedPartsAreHeld }
+{}
 
 /// In every format a part lists each of its stored elements once, and nothing else.
 pub fn each_stored_element_once()
