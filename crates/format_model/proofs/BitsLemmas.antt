@@ -5,10 +5,7 @@ use Rattle.std.specs.Int.Count.{count_leading_zeros}
 use Rattle.std.proofs.Math.Nat.{two-pow-succ}
 use Rattle.std.proofs.lemmas.Nat.{leading_length, pow_pos}
 use Rattle.format_model.specs.Levels.{bits, digits}
-
-digits_none : (most : ℕ) → digits most 0 ≡ 0
-digits_none zero = refl
-digits_none (suc most) = refl
+use Rattle.format_model.proofs.DigitLemmas.{digits_none}
 
 digits_some : (most n : ℕ) → 0 < n → digits (suc most) n ≡ suc (digits most (n / 2))
 digits_some most n some = cond-false (n == 0) 0 (suc (digits most (n / 2))) (ne_eqb n 0 (omega (arith, some)))
