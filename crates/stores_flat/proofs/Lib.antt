@@ -1,0 +1,2 @@
+pub mod ListBuilding
+pub mod ListLemmas
