@@ -1,5 +1,5 @@
 -- What the list of a part has.
-use Rattle.std.proofs.Common.{◌≡◌, ◌≢◌, ◌∙◌, ℕ, zero, suc, ◌+◌, ◌*◌, ◌<◌, ◌≤◌, Bool, true, false, List, [], ◌∷◌, length, map, get_or, refl, sym, ap, subst, arith, zero-add}
+use Rattle.std.proofs.Common.{◌≡◌, ◌≢◌, ◌∙◌, ℕ, ◌+◌, ◌*◌, ◌<◌, ◌≤◌, Bool, true, false, List, length, map, get_or, refl, sym, ap, subst, arith}
 use Rattle.std.specs.Prelude.{slice_index}
 use Rattle.std.specs.List.{All, AllPairs, range_with_len}
 use Rattle.std.proofs.lemmas.List.{length-map, get_or-map}
@@ -8,7 +8,6 @@ use Rattle.std.proofs.lemmas.List.Kept.{AllPairs-from_increasing}
 use Rattle.std.proofs.lemmas.Nat.{mul-add-lt}
 use Rattle.std.proofs.lemmas.Simd.{map-map}
 use Rattle.bern_base.specs.Matrix.{number, IsInside, IsMatrix}
-use Rattle.bern_base.specs.declared.axes.Axis.{Axis}
 use Rattle.bern_base.specs.declared.matrix.Entry.{Entry}
 use Rattle.bern_base.specs.declared.matrix.Matrix.{Matrix}
 use Rattle.format_model.specs.Axes.{index_of}

@@ -1,9 +1,7 @@
 -- The children of a list, and what they list.
-use Rattle.std.proofs.Common.{◌≡◌, ◌∙◌, ℕ, zero, suc, ◌+◌, ◌<◌, ◌≤◌, List, [], ◌∷◌, length, map, get_or, Option, Some, None, refl, sym, ap, subst, arith, zero-add}
+use Rattle.std.proofs.Common.{◌≡◌, ◌∙◌, ℕ, zero, suc, ◌<◌, List, [], ◌∷◌, length, Some, None, sym, ap, subst, arith, zero-add}
 use Rattle.std.specs.Prelude.{slice_index}
-use Rattle.std.specs.List.{slice_get, range_with_len}
-use Rattle.std.proofs.lemmas.List.{length-map, get_or-map}
-use Rattle.std.proofs.lemmas.List.FromFn.{fill_by_all}
+use Rattle.std.specs.List.{slice_get}
 use Rattle.bern_base.specs.declared.axes.Axis.{Axis}
 use Rattle.format_model.specs.Levels.{level_at, list_level, steps_of}
 use Rattle.format_model.specs.Made.{made, made_at, made_found, made_none, length-made}

@@ -1,14 +1,11 @@
 -- The law of lists, and what they list.
-use Rattle.std.proofs.Common.{◌≡◌, ◌≢◌, ◌∙◌, ℕ, zero, suc, ◌+◌, ◌*◌, ◌<◌, ◌≤◌, ◌==◌, Bool, true, false, List, [], ◌∷◌, length, map, get_or, Option, Some, None, refl, sym, ap, subst, arith}
+use Rattle.std.proofs.Common.{◌≡◌, ◌≢◌, ℕ, zero, suc, ◌<◌, ◌≤◌, true, List, [], ◌∷◌, length, refl, arith}
 use Rattle.std.specs.Prelude.{slice_index}
-use Rattle.std.specs.List.{All, AllPairs, range_with_len, slice_get}
-use Rattle.std.specs.List.Sorted.{IsStrictlyIncreasing}
-use Rattle.std.proofs.lemmas.List.{length-map, get_or-map, get_or_default}
-use Rattle.std.proofs.lemmas.List.FromFn.{fill_by_all, length-map-range_with_len, get_or-map-range_with_len}
+use Rattle.std.specs.List.{All, AllPairs}
 use Rattle.bern_base.specs.declared.axes.Axis.{Axis}
 use Rattle.format_model.specs.declared.limits.TheConstants.{MOST_INDEX}
 use Rattle.format_model.specs.Levels.{level_at, list_level}
-use Rattle.format_model.specs.Made.{made, made_all, made_once}
+use Rattle.format_model.specs.Made.{made_all, made_once}
 use Rattle.format_model.specs.Trees.{IsTree}
 use Rattle.stores_flat.specs.Lists.{list_tree}
 

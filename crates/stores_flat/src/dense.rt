@@ -32,7 +32,12 @@ impl DenseStore {
     /// `single` is the form of one level, for a part of one column.
     ///
     /// An element takes 8 bytes.
-    pub fn build(alloc: Global, part: &Matrix, axis: Axis, single: bool) -> Result<DenseStore, NoMemory>
+    pub fn build(
+        alloc: Global,
+        part: &Matrix,
+        axis: Axis,
+        single: bool,
+    ) -> Result<DenseStore, NoMemory>
         requires part { IsMatrix part.now }
         requires few { part.now.rows * part.now.cols < 2 ^ 32 }
         requires axis { axis ≢ axis_is.Both }
@@ -44,23 +49,31 @@ impl DenseStore {
     {
         let mut store = DenseStore::zeros(alloc, part.rows, part.cols, axis, single)?;
         for entry in part.entries.as_slice() {
-            store.set(entry.number(part.cols) as u32, entry.value);
+            let element = entry.number(part.cols) as u32;
+            store.set(element, Val::new(entry.value.bits()));
         }
         Ok(store)
     }
 
     /// A part of these sizes without entries.
-    fn zeros(alloc: Global, rows: u32, cols: u32, axis: Axis, single: bool) -> Result<DenseStore, NoMemory>
+    fn zeros(
+        alloc: Global,
+        rows: u32,
+        cols: u32,
+        axis: Axis,
+        single: bool,
+    ) -> Result<DenseStore, NoMemory>
         requires few { rows * cols < 2 ^ 32 }
         requires axis { axis ≢ axis_is.Both }
         requires single_axis { single ≡ true → axis ≡ axis_is.Row }
         requires single_cols { single ≡ true → cols ≡ 1 }
         ensures { IfOk result (λ s. ⟦<DenseStore as Cells>⟧.grid s ≡ Some (grid_with single axis rows cols (replicate (rows * cols) 0))) }
     {
-        let (lines, width) = if axis == Axis::Col { (cols, rows) } else { (rows, cols) };
+        let layout = Layout::of(axis, single);
+        let (lines, width) = layout.extents(rows, cols);
         let values = vec![in alloc; Val::new(0); lines as usize * width as usize]?;
         Ok(DenseStore {
-            layout: Layout::of(axis, single),
+            layout,
             lines,
             width,
             values: Items::from_vec(values),

@@ -1,6 +1,6 @@
 ghost use Rattle.std.specs.Prelude.{◌≡◌, ◌≢◌, ◌<◌, ◌*◌, ◌^◌, true};
 ghost use Rattle.bern_base.specs.declared.axes.Axis.TheVariants as axis_is;
-ghost use Rattle.stores_flat.specs.Dense.{is_single, outer_of, place_of};
+ghost use Rattle.stores_flat.specs.Dense.{is_single, outer_of, place_of, rows_of, cols_of};
 
 use bern_base::Axis;
 
@@ -24,6 +24,17 @@ impl Layout {
             Axis::Col => Layout::ColMajor,
             _ if single => Layout::Single,
             _ => Layout::RowMajor,
+        }
+    }
+
+    /// How many lines a part of these sizes has, and of how many elements.
+    pub fn extents(self, rows: u32, cols: u32) -> (u32, u32)
+        ensures rows { rows_of self result.0 result.1 ≡ rows }
+        ensures cols { cols_of self result.0 result.1 ≡ cols }
+    {
+        match self {
+            Layout::ColMajor => (cols, rows),
+            _ => (rows, cols),
         }
     }
 

@@ -10,5 +10,7 @@ mod layout;
 mod list;
 
 pub use dense::DenseStore;
-pub use laws::{a_store_describes_the_part_of_its_elements, set_changes_the_described_part};
+pub use laws::{
+    a_set_store_describes_the_changed_part, a_store_describes_the_part_of_its_elements,
+};
 pub use list::ListStore;

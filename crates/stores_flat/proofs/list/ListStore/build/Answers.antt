@@ -1,9 +1,9 @@
-use Rattle.std.proofs.Common.{◌≡◌, ◌≢◌, ◌≤◌, ◌∙◌, length, map, sym, ap, subst, arith}
+use Rattle.std.proofs.Common.{◌≢◌, ◌≤◌, ◌∙◌, length, sym, ap, subst}
 use Rattle.std.specs.List.{All, AllPairs}
 use Rattle.std.proofs.lemmas.List.{length-map}
 use Rattle.format_model.specs.Axes.{index_of}
 use Rattle.format_model.specs.declared.limits.TheConstants.{MOST_INDEX}
-use Rattle.stores_flat.specs.Lists.{flat_axis, index_list, list_axis}
+use Rattle.stores_flat.specs.Lists.{flat_axis}
 use Rattle.stores_flat.proofs.ListBuilding.{indices_apart, indices_small, list_describes}
 use Rattle.stores_flat.proofs.list.ListStore.build.Goals as goal
 

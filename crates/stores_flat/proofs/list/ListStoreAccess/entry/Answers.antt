@@ -1,4 +1,4 @@
-use Rattle.std.proofs.Common.{◌-◌, ◌<◌, ◌≡◌, ap, subst, sym, ◌∙◌, Some, length, arith}
+use Rattle.std.proofs.Common.{◌-◌, ◌≡◌, ap, ◌∙◌, arith}
 use Rattle.std.specs.List.{slice_get}
 use Rattle.stores_flat.specs.Lists.{index_list}
 use Rattle.stores_flat.proofs.ListLemmas.{length-places, place_at, places}

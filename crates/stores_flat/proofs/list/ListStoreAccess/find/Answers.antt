@@ -1,4 +1,4 @@
-use Rattle.std.proofs.Common.{◌∙◌, ◌<◌, ◌≡◌, length, sym, subst, arith}
+use Rattle.std.proofs.Common.{◌∙◌, sym, arith}
 use Rattle.stores_flat.specs.Lists.{index_list, list_axis}
 use Rattle.stores_flat.proofs.ListLemmas.{list_weight, place_found, place_none}
 use Rattle.stores_flat.proofs.list.ListStoreAccess.find.Goals as goal

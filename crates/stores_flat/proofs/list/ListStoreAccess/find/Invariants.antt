@@ -1,5 +1,5 @@
 -- Each place passed has cost a step, and has another index.
-use Rattle.std.proofs.Common.{◌≡◌, ℕ, ◌+◌, ◌<◌, ◌≤◌}
+use Rattle.std.proofs.Common.{◌≡◌, ℕ, ◌+◌, ◌<◌}
 use Rattle.std.specs.Prelude.{slice_index}
 use Rattle.stores_flat.specs.Lists.{index_list}
 use Rattle.stores_flat.proofs.list.ListStoreAccess.find.Given as goal
