@@ -1,5 +1,5 @@
 -- What each format lists, and in which order: its indices level by level, with the values at the leaves.
-use Rattle.std.specs.Prelude.{ℕ, ◌+◌, ◌-◌, ◌==◌, nat_lt, List, [], ◌∷◌, length, map, slice_index, position, ℤ, pos, negsuc, ◌+ℤ◌}
+use Rattle.std.specs.Prelude.{Bool, ℕ, ◌+◌, ◌-◌, ◌==◌, nat_lt, List, [], ◌∷◌, length, map, slice_index, position, ℤ, pos, negsuc, ◌+ℤ◌}
 use Rattle.std.specs.List.{filter, filter_map, flat_map, list_any, range_with_len}
 use Rattle.bern_base.specs.declared.axes.Axis.{Axis}
 use Rattle.bern_base.specs.declared.axes.Axis.TheVariants as axis
