@@ -4,10 +4,12 @@
 //! Rows, columns and element numbers count from 0.
 #![tactic(auto)]
 
+mod any_store;
 mod checks;
 mod digits;
 mod filled;
 mod statistics;
 
+pub use any_store::AnyStore;
 pub use checks::{check_shape, check_sizes};
 pub use statistics::stats;
