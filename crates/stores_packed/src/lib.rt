@@ -8,6 +8,7 @@ mod axes;
 mod filling;
 mod form;
 mod halving;
+mod squeezing;
 mod store;
 
 pub use store::PackedStore;
