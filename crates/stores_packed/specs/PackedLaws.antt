@@ -16,6 +16,11 @@ two_levels form.PackedOne = omega arith
 two_levels (form.DensePacked outer lines) = omega arith
 two_levels (form.PackedPacked outer) = omega arith
 
+some_level : (f : Form) → 0 < length (levels_of (shape_of f))
+some_level form.PackedOne = omega arith
+some_level (form.DensePacked outer lines) = omega arith
+some_level (form.PackedPacked outer) = omega arith
+
 -- children with rising indices below 2^32, whose numbers are below a bound
 pub record AreChildren (bound : ℕ) (children : List (ℕ × ℕ)) : Type 0 where
   pub within : All (λ c. c.1 < bound) children
@@ -48,6 +53,8 @@ children_of f outers starts indices values p (suc (suc level)) parent is = absur
 
 pub packed_is_tree : (f : Form) (outers starts indices values : List ℕ) → IsPacked f outers starts indices values → IsTree (packed_tree f outers starts indices values)
 packed_is_tree f outers starts indices values p = record {
+  some = some_level f;
+  few = two_levels f;
   root = refl;
   within = λ level parent is. (children_of f outers starts indices values p level parent is).within;
   once = λ level parent is. (children_of f outers starts indices values p level parent is).once;

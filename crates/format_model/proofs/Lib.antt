@@ -1,0 +1,17 @@
+pub mod AgreeLemmas
+pub mod BitsLemmas
+pub mod ContentLemmas
+pub mod CountExamples
+pub mod DenseLemmas
+pub mod DescribesLemmas
+pub mod DiagonalLemmas
+pub mod DigitLemmas
+pub mod ElementExamples
+pub mod Examples
+pub mod GridLemmas
+pub mod LineLemmas
+pub mod LookupLemmas
+pub mod OnceLemmas
+pub mod OrderLemmas
+pub mod SearchLemmas
+pub mod ValueLemmas

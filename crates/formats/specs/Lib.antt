@@ -1,0 +1,3 @@
+pub use Rattle.format_model.specs.Checks
+pub use Rattle.format_model.specs.Estimates
+pub mod AnyStores

@@ -1,0 +1,5 @@
+pub mod Changes
+pub mod Dense
+pub mod DenseLaws
+pub mod ListLaws
+pub mod Lists
