@@ -22,12 +22,12 @@ kept_one false f g a xs ys here rest = rest
 
 -- tests and functions that agree on a range
 pub kept_same : {X : Type 0} (p q : ℕ → Bool) (f g : ℕ → X) (a n : ℕ) → ((k : ℕ) → a ≤ k → k < a + n → p k ≡ q k) → ((k : ℕ) → a ≤ k → k < a + n → f k ≡ g k)
-  → map f (filter p (range_with_len a n)) ≡ map g (filter q (range_with_len a n))
+    → map f (filter p (range_with_len a n)) ≡ map g (filter q (range_with_len a n))
 kept_same p q f g a zero tests each = refl
 kept_same p q f g a (suc n) tests each =
     ap (λ b. map f (cond b (a ∷ filter p (range_with_len (a + 1) n)) (filter p (range_with_len (a + 1) n)))) (tests a (omega arith) (omega arith))
     ∙ kept_one (q a) f g a (filter p (range_with_len (a + 1) n)) (filter q (range_with_len (a + 1) n)) (each a (omega arith) (omega arith))
-      (kept_same p q f g (a + 1) n (λ k low high. tests k (omega arith) (omega arith)) (λ k low high. each k (omega arith) (omega arith)))
+    (kept_same p q f g (a + 1) n (λ k low high. tests k (omega arith) (omega arith)) (λ k low high. each k (omega arith) (omega arith)))
 
 range_more : (a n j : ℕ) → a + n ≡ j → range_with_len a (suc n) ≡ range_with_len a n ++ j ∷ []
 range_more a zero j at = ap (λ k. k ∷ []) (omega arith)
@@ -59,13 +59,13 @@ pub record Follow (from : List ℕ) (first : ℕ) (kept starts : List ℕ) : Typ
   pub ends : (k : ℕ) → k < length kept → get_or starts (suc k) 0 ≡ get_or from (get_or kept k 0 + 1) 0
 
 ends_more : (from : List ℕ) (line : ℕ) (kept starts : List ℕ) → Follow from (line + 1) kept starts
-  → (k : ℕ) → k < suc (length kept) → get_or (get_or from line 0 ∷ starts) (suc k) 0 ≡ get_or from (get_or (line ∷ kept) k 0 + 1) 0
+    → (k : ℕ) → k < suc (length kept) → get_or (get_or from line 0 ∷ starts) (suc k) 0 ≡ get_or from (get_or (line ∷ kept) k 0 + 1) 0
 ends_more from line kept starts f zero low = f.begin
 ends_more from line kept starts f (suc k) low = f.ends k (omega arith)
 
 -- the lines that have a place follow one another, where no line begins before the one in front of it
 pub wide_follow : (from : List ℕ) (a n : ℕ) → ((k : ℕ) → a ≤ k → k < a + n → get_or from k 0 ≤ get_or from (k + 1) 0)
-  → Follow from a (filter (is_wide from) (range_with_len a n)) (map (λ k. get_or from k 0) (filter (is_wide from) (range_with_len a n)) ++ get_or from (a + n) 0 ∷ [])
+    → Follow from a (filter (is_wide from) (range_with_len a n)) (map (λ k. get_or from k 0) (filter (is_wide from) (range_with_len a n)) ++ get_or from (a + n) 0 ∷ [])
 wide_follow from a zero up = record {
   begin = ap (λ k. get_or from k 0) (omega arith);
   ends = λ k low. absurd (omega arith);
@@ -74,14 +74,14 @@ wide_follow from a (suc n) up =
     let kept : List ℕ = filter (is_wide from) (range_with_len (a + 1) n) in
     let last : a + 1 + n ≡ a + suc n = omega arith in
     let rest : Follow from (a + 1) kept (map (λ k. get_or from k 0) kept ++ get_or from (a + suc n) 0 ∷ []) =
-      subst (λ e. Follow from (a + 1) kept (map (λ k. get_or from k 0) kept ++ get_or from e 0 ∷ [])) last (wide_follow from (a + 1) n (λ k low high. up k (omega arith) (omega arith))) in ⊎_elim
+    subst (λ e. Follow from (a + 1) kept (map (λ k. get_or from k 0) kept ++ get_or from e 0 ∷ [])) last (wide_follow from (a + 1) n (λ k low high. up k (omega arith) (omega arith))) in ⊎_elim
     (λ (less : get_or from a 0 < get_or from (a + 1) 0).
-      subst (λ ls. Follow from a ls (map (λ k. get_or from k 0) ls ++ get_or from (a + suc n) 0 ∷ [])) (sym (cond-true (is_wide from a) (a ∷ kept) kept (lt-ltb (get_or from a 0) (get_or from (a + 1) 0) less)))
-      (record { begin = refl; ends = ends_more from a kept (map (λ k. get_or from k 0) kept ++ get_or from (a + suc n) 0 ∷ []) rest }))
+    subst (λ ls. Follow from a ls (map (λ k. get_or from k 0) ls ++ get_or from (a + suc n) 0 ∷ [])) (sym (cond-true (is_wide from a) (a ∷ kept) kept (lt-ltb (get_or from a 0) (get_or from (a + 1) 0) less)))
+    (record { begin = refl; ends = ends_more from a kept (map (λ k. get_or from k 0) kept ++ get_or from (a + suc n) 0 ∷ []) rest }))
     (λ (none : get_or from (a + 1) 0 ≤ get_or from a 0).
-      let here : get_or from a 0 ≤ get_or from (a + 1) 0 = up a (omega arith) (omega arith) in
-      subst (λ ls. Follow from a ls (map (λ k. get_or from k 0) ls ++ get_or from (a + suc n) 0 ∷ [])) (sym (cond-false (is_wide from a) (a ∷ kept) kept (le-ltb (get_or from a 0) (get_or from (a + 1) 0) none)))
-      (record { begin = rest.begin ∙ omega arith; ends = rest.ends }))
+    let here : get_or from a 0 ≤ get_or from (a + 1) 0 = up a (omega arith) (omega arith) in
+    subst (λ ls. Follow from a ls (map (λ k. get_or from k 0) ls ++ get_or from (a + suc n) 0 ∷ [])) (sym (cond-false (is_wide from a) (a ∷ kept) kept (le-ltb (get_or from a 0) (get_or from (a + 1) 0) none)))
+    (record { begin = rest.begin ∙ omega arith; ends = rest.ends }))
     (cases_lt (get_or from a 0) (get_or from (a + 1) 0))
 
 -- the kept lines and their starts after one line more
@@ -90,7 +90,7 @@ pub record AreKept (from : List ℕ) (lines : ℕ) (kept starts : List ℕ) : Ty
   pub begins : starts ≡ map (λ k. get_or from k 0) kept
 
 pub kept_more : (from : List ℕ) (line : ℕ) (outers starts : List ℕ) → AreKept from line outers starts → get_or from line 0 < get_or from (line + 1) 0
-  → AreKept from (line + 1) (outers ++ line ∷ []) (starts ++ get_or from line 0 ∷ [])
+    → AreKept from (line + 1) (outers ++ line ∷ []) (starts ++ get_or from line 0 ∷ [])
 kept_more from line outers starts p less = record {
   outers = ap (λ ls. ls ++ line ∷ []) p.outers ∙ sym (wide_more from line less);
   begins = ap (λ ss. ss ++ get_or from line 0 ∷ []) p.begins ∙ sym (map-append (λ k. get_or from k 0) outers (line ∷ []));

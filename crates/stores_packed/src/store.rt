@@ -1,18 +1,19 @@
 ghost use Rattle.std.specs.Prelude.{◌≡◌, ℕ, ◌+◌, ◌^◌, ◌<◌, ◌≤◌, IfOk, IsTrue, List, length};
 ghost use Rattle.bern_base.specs.Matrix.{IsMatrix};
 ghost use Rattle.bern_base.specs.declared.shape.Shape.TheVariants as shape;
-ghost use Rattle.stores_packed.specs.Lines.{HasLines};
-ghost use Rattle.stores_packed.specs.Packed.{IsPacked, outer_index, packed_tree, packed_shape, placed, root_weight, width_of};
+ghost use Rattle.format_model.specs.Laws.{IsSide};
+ghost use Rattle.stores_packed.specs.Packed.{IsPacked, outer_index, packed_tree, packed_shape, level_0, root_weight, width_of};
 ghost use Rattle.format_model.specs.Trees.{Describes, child_at};
 ghost use Rattle.stores_packed.specs.PackedLaws.{packed_is_tree};
 
-use crate::axes::{across, lines_in};
 use crate::filling::fill;
 use crate::form::Form;
 use crate::halving::search;
+use crate::lines::lines_in;
 use crate::squeezing::squeeze;
 use access_joins::{Access, Line};
 use bern_base::{Axis, Matrix, NoMemory, Steps, Val};
+use format_model::across;
 use std::alloc::Global;
 use std::sync::ledger::Ledger;
 
@@ -43,9 +44,10 @@ impl PackedStore {
     ) -> Result<PackedStore, NoMemory>
         requires part { IsMatrix part.now }
         requires few { length part.now.entries < 2 ^ 32 }
-        requires outer { HasLines outer }
+        requires outer { IsSide outer }
         requires column { IsTrue single → part.now.cols ≡ 1 }
-        ensures { IfOk result (λ s. (globals order : List ℕ) → Describes (⟦<PackedStore as Access>⟧.tree s) (packed_shape outer outer_dense single) globals order part.now) }
+        ensures { IfOk result (λ s. (globals order : List ℕ) →
+            Describes (⟦<PackedStore as Access>⟧.tree s) (packed_shape outer outer_dense single) globals order part.now) }
     {
         if single {
             PackedStore::vector(alloc, part)
@@ -61,7 +63,8 @@ impl PackedStore {
         requires part { IsMatrix part.now }
         requires few { length part.now.entries < 2 ^ 32 }
         requires column { part.now.cols ≡ 1 }
-        ensures { IfOk result (λ s. (globals order : List ℕ) → Describes (⟦<PackedStore as Access>⟧.tree s) shape.PackedOne globals order part.now) }
+        ensures { IfOk result (λ s. (globals order : List ℕ) →
+            Describes (⟦<PackedStore as Access>⟧.tree s) shape.PackedOne globals order part.now) }
     {
         let entries = part.entries.as_slice();
         let mut outers = Vec::with_capacity(alloc, entries.len())?;
@@ -83,8 +86,9 @@ impl PackedStore {
     fn under_dense(alloc: Global, part: &Matrix, outer: Axis) -> Result<PackedStore, NoMemory>
         requires part { IsMatrix part.now }
         requires few { length part.now.entries < 2 ^ 32 }
-        requires outer { HasLines outer }
-        ensures { IfOk result (λ s. (globals order : List ℕ) → Describes (⟦<PackedStore as Access>⟧.tree s) (shape.DensePacked outer) globals order part.now) }
+        requires outer { IsSide outer }
+        ensures { IfOk result (λ s. (globals order : List ℕ) →
+            Describes (⟦<PackedStore as Access>⟧.tree s) (shape.DensePacked outer) globals order part.now) }
     {
         let lines = lines_in(outer, part);
         let filled = fill(alloc, part, outer)?;
@@ -101,8 +105,9 @@ impl PackedStore {
     fn under_packed(alloc: Global, part: &Matrix, outer: Axis) -> Result<PackedStore, NoMemory>
         requires part { IsMatrix part.now }
         requires few { length part.now.entries < 2 ^ 32 }
-        requires outer { HasLines outer }
-        ensures { IfOk result (λ s. (globals order : List ℕ) → Describes (⟦<PackedStore as Access>⟧.tree s) (shape.PackedPacked outer) globals order part.now) }
+        requires outer { IsSide outer }
+        ensures { IfOk result (λ s. (globals order : List ℕ) →
+            Describes (⟦<PackedStore as Access>⟧.tree s) (shape.PackedPacked outer) globals order part.now) }
     {
         let filled = fill(alloc, part, outer)?;
         let kept = squeeze(alloc, &filled.starts)?;
@@ -138,16 +143,23 @@ impl PackedStore {
 
     /// The node of an index in level 0.
     fn find_outer<L: Ledger>(&self, index: u64, steps: &mut Steps<L>) -> Option<u32>
-        ensures found { result ≡ child_at (placed (outer_index self.now.form self.now.outers.items) 0 (width_of self.now.form self.now.outers.items)) index }
+        ensures found { result ≡ child_at (level_0 self.now.form self.now.outers.items) index }
         ensures cost { steps.new ≤ steps.old + root_weight self.now.form self.now.outers.items }
     {
         match self.form {
             Form::DensePacked { lines, .. } => {
                 steps.tick();
-                if index < lines as u64 { Some(index as u32) } else { None }
+                if index < lines as u64 {
+                    Some(index as u32)
+                } else {
+                    None
+                }
             }
             Form::PackedOne | Form::PackedPacked { .. } => {
-                let line = Line { from: 0, to: self.outers.len() as u32 };
+                let line = Line {
+                    from: 0,
+                    to: self.outers.len() as u32,
+                };
                 search(&self.outers, line, index, steps)
             }
         }

@@ -1,4 +1,4 @@
-use Rattle.std.proofs.Common.{◌≡◌, ℕ, length}
+use Rattle.std.proofs.Common.{◌≡◌, length}
 use Rattle.std.specs.List.{filter, range_with_len}
 use Rattle.stores_packed.specs.Lines.{is_wide}
 use Rattle.stores_packed.proofs.squeezing.count_wide.Given as goal

@@ -1,4 +1,4 @@
-use Rattle.std.proofs.Common.{◌≡◌, ℕ, List, Bool, true, false, sym, subst, ap, ◌∙◌}
+use Rattle.std.proofs.Common.{ℕ, List, true, false, sym, subst}
 use Rattle.std.specs.Result.{IfOk}
 use Rattle.format_model.specs.Trees.{Describes}
 use Rattle.stores_packed.specs.Packed.{packed_shape, packed_tree}

@@ -1,4 +1,4 @@
-use Rattle.std.proofs.Common.{◌≡◌, ℕ, ◌+◌, ◌<◌, ◌≤◌, [], List, sym, subst, ap, ◌∙◌, arith}
+use Rattle.std.proofs.Common.{sym, subst, arith}
 use Rattle.stores_packed.specs.declared.form.Form.TheVariants as form
 use Rattle.bern_base.specs.declared.shape.Shape.TheVariants as shape
 use Rattle.format_model.specs.Trees.{Describes}
@@ -9,9 +9,9 @@ use Rattle.stores_packed.proofs.store.PackedStore.under_dense.Goals as goal
 pub invariant_of-result : goal.invariant_of-result
 invariant_of-result c =
     let f = c.in_ok-filled.filled in record {
-    packed = subst (λ os. IsPacked (form.DensePacked c.args.outer c.lines_in-lines.result) os f.starts.items f.indices.items f.values.items) (sym c.new.ensures.items)
-      (dense_is_packed c.args.outer c.args.part.now c.lines_in-lines.result f.starts.items f.indices.items f.values.items c.requires.outer c.requires.part c.lines_in-lines.ensures (omega arith) c.in_ok-filled.ensures);
-  }
+      packed = subst (λ os. IsPacked (form.DensePacked c.args.outer c.lines_in-lines.result) os f.starts.items f.indices.items f.values.items) (sym c.new.ensures.items)
+          (dense_is_packed c.args.outer c.args.part.now c.lines_in-lines.result f.starts.items f.indices.items f.values.items c.requires.outer c.requires.part c.lines_in-lines.ensures (omega arith) c.in_ok-filled.ensures);
+    }
 
 pub returns : goal.returns
 returns c globals order =
