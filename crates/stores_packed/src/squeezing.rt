@@ -26,12 +26,14 @@ fn count_wide(from: &[u32]) -> usize
     count
 }
 
-/// Leaves out the lines without a place. The last start is the end of the last line.
+/// Leaves out the lines without a place, which begin where they end. The last start is the end of the last line. Both lists
+/// have exactly the room that they need.
 pub fn squeeze(alloc: Global, from: &[u32]) -> Result<Squeezed, NoMemory>
     requires some { 0 < length from.now }
     requires few { length from.now ≤ 2 ^ 32 }
     ensures outers { IfOk result (λ q. q.outers.items ≡ filter (is_wide from.now) (range_with_len 0 (length from.now - 1))) }
-    ensures starts { IfOk result (λ q. q.starts.items ≡ map (slice_index from.now) q.outers.items ++ slice_index from.now (length from.now - 1) ∷ []) }
+    ensures starts { IfOk result (λ q.
+        q.starts.items ≡ map (slice_index from.now) q.outers.items ++ slice_index from.now (length from.now - 1) ∷ []) }
 {
     let lines = from.len() - 1;
     let wide = count_wide(from);

@@ -17,7 +17,9 @@ use format_model::across;
 use std::alloc::Global;
 use std::sync::ledger::Ledger;
 
-/// A part by its entries, line by line, each line's by rising index.
+/// A part by its entries, line by line, and those of a line by rising index.
+///
+/// An entry takes 12 bytes, a line of a dense level 4, and one of a packed level 8.
 #[derive(Debug, Drop)]
 pub struct PackedStore {
     form: Form,
@@ -33,8 +35,10 @@ pub struct PackedStore {
 }
 
 impl PackedStore {
-    /// Stores a part by its entries: a vector in one level (`single`), or a level of lines, dense or packed, over the indices
-    /// within each. The part has fewer than 2^32 entries; a vector is one column, by rows.
+    /// Stores a part by its entries: a vector in one packed level of rows (`single`), or a level of lines on the `outer` axis,
+    /// all of them (`outer_dense`) or those that have an entry, over a packed level of the indices within each.
+    ///
+    /// It takes time linear in the entries and, with two levels, in the lines; nothing is sorted.
     pub fn build(
         alloc: Global,
         part: &Matrix,
