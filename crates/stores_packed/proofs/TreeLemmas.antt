@@ -1,14 +1,14 @@
 -- What the calls of a store read in its arrays, as the children of its tree.
-use Rattle.std.proofs.Common.{◌≡◌, ℕ, zero, suc, ◌+◌, ◌-◌, ◌^◌, ◌<◌, ◌≤◌, Bool, true, List, length, get_or, Option, None, Some, ◌⊎◌, ⊎_elim, refl, sym, ap, ◌∙◌, subst, arith}
+use Rattle.std.proofs.Common.{◌≡◌, ℕ, zero, suc, ◌+◌, ◌-◌, ◌<◌, ◌≤◌, List, length, get_or, None, Some, ◌⊎◌, ⊎_elim, refl, sym, ap, ◌∙◌, subst, arith}
 use Rattle.std.specs.List.{slice_get}
 use Rattle.std.proofs.lemmas.List.{get_or_read}
 use Rattle.bern_base.specs.declared.axes.Axis.{Axis}
-use Rattle.format_model.specs.Levels.{bits, levels_of}
-use Rattle.format_model.specs.Made.{length-made, made, made_at, made_found, made_none}
+use Rattle.format_model.specs.Levels.{bits}
+use Rattle.format_model.specs.Made.{length-made, made_at, made_found, made_none}
 use Rattle.format_model.specs.Trees.{IsLeaf, child_at, IsParent, weight_at}
 use Rattle.stores_packed.specs.declared.form.Form.{Form}
 use Rattle.stores_packed.specs.declared.form.Form.TheVariants as form
-use Rattle.stores_packed.specs.Packed.{IsPacked, RisesBetween, leaves_of, outer_index, packed_children, packed_nodes, packed_start, packed_tree, placed, root_weight, shape_of, starts_of, width_of}
+use Rattle.stores_packed.specs.Packed.{IsPacked, RisesBetween, outer_index, packed_children, packed_start, packed_tree, placed, root_weight, width_of}
 use Rattle.stores_packed.specs.PackedLaws.{two_levels}
 
 pub length-placed : (index : ℕ → ℕ) (from count : ℕ) → length (placed index from count) ≡ count
@@ -30,21 +30,21 @@ pub record IsLineIn (index : ℕ → ℕ) (long : ℕ) (cs : List (ℕ × ℕ)) 
 
 -- below the root
 pub root_line : (f : Form) (outers starts indices values : List ℕ) (level parent : ℕ) → IsPacked f outers starts indices values
-  → level ≤ 0 → IsLineIn (outer_index f outers) (width_of f outers) (packed_children f outers starts indices level parent) 0 (width_of f outers)
+    → level ≤ 0 → IsLineIn (outer_index f outers) (width_of f outers) (packed_children f outers starts indices level parent) 0 (width_of f outers)
 root_line f outers starts indices values zero parent p first =
     let same : width_of f outers ≡ width_of f outers - 0 = omega arith in record {
-    order = omega arith;
-    within = omega arith;
-    rises = p.outer_rises;
-    children = ap (λ n. placed (outer_index f outers) 0 n) same;
-    count = length-placed (outer_index f outers) 0 (width_of f outers) ∙ same;
-  }
+      order = omega arith;
+      within = omega arith;
+      rises = p.outer_rises;
+      children = ap (λ n. placed (outer_index f outers) 0 n) same;
+      count = length-placed (outer_index f outers) 0 (width_of f outers) ∙ same;
+    }
 root_line f outers starts indices values (suc level) parent p first = absurd (omega arith)
 
 -- below a node of level 0
 pub node_line : (f : Form) (outers starts indices values : List ℕ) (level parent : ℕ) → IsPacked f outers starts indices values
-  → 0 < level → IsParent (packed_tree f outers starts indices values) level parent
-  → IsLineIn (λ k. get_or indices k 0) (length indices) (packed_children f outers starts indices level parent) (get_or starts parent 0) (get_or starts (parent + 1) 0)
+    → 0 < level → IsParent (packed_tree f outers starts indices values) level parent
+    → IsLineIn (λ k. get_or indices k 0) (length indices) (packed_children f outers starts indices level parent) (get_or starts parent 0) (get_or starts (parent + 1) 0)
 node_line f outers starts indices values zero parent p later is = absurd (omega arith)
 node_line f outers starts indices values (suc zero) parent p later is = record {
   order = p.order parent is.1;
@@ -57,7 +57,7 @@ node_line f outers starts indices values (suc (suc level)) parent p later is = a
 
 -- the place of a node of level 0 has a start, and the next one too
 pub node_starts : (f : Form) (outers starts indices values : List ℕ) (level parent : ℕ) → IsPacked f outers starts indices values
-  → 0 < level → IsParent (packed_tree f outers starts indices values) level parent → parent + 1 < length starts
+    → 0 < level → IsParent (packed_tree f outers starts indices values) level parent → parent + 1 < length starts
 node_starts form.PackedOne outers starts indices values level parent p later is = absurd (omega (arith, is.0))
 node_starts (form.DensePacked outer lines) outers starts indices values (suc zero) parent p later is = omega (arith, p.starts_long, is.1)
 node_starts (form.PackedPacked outer) outers starts indices values (suc zero) parent p later is = omega (arith, p.starts_long, is.1)
@@ -74,14 +74,14 @@ start_of_root starts (suc level) parent first = absurd (omega arith)
 
 -- a leaf has a value
 pub leaf_within : (f : Form) (outers starts indices values : List ℕ) (leaf : ℕ) → IsPacked f outers starts indices values
-  → IsLeaf (packed_tree f outers starts indices values) leaf → leaf < length values
+    → IsLeaf (packed_tree f outers starts indices values) leaf → leaf < length values
 leaf_within form.PackedOne outers starts indices values leaf p is = omega (arith, p.values_long, is)
 leaf_within (form.DensePacked outer lines) outers starts indices values leaf p is = omega (arith, p.values_long, is)
 leaf_within (form.PackedPacked outer) outers starts indices values leaf p is = omega (arith, p.values_long, is)
 
 -- a search below a node of level 0 may take as many steps as its count has binary digits
 pub node_weight : (f : Form) (outers starts indices values : List ℕ) (level parent : ℕ) → 0 < level → IsParent (packed_tree f outers starts indices values) level parent
-  → weight_at (packed_tree f outers starts indices values) level parent ≡ bits (length (packed_children f outers starts indices level parent))
+    → weight_at (packed_tree f outers starts indices values) level parent ≡ bits (length (packed_children f outers starts indices level parent))
 node_weight form.PackedOne outers starts indices values level parent later is = absurd (omega (arith, is.0))
 node_weight (form.DensePacked outer lines) outers starts indices values (suc zero) parent later is = refl
 node_weight (form.PackedPacked outer) outers starts indices values (suc zero) parent later is = refl
@@ -90,7 +90,7 @@ node_weight f outers starts indices values (suc (suc level)) parent later is = a
 
 -- a search in level 0 may take as many steps as that level's weight
 pub root_weight_is : (f : Form) (outers starts indices values : List ℕ) (level parent : ℕ) → level ≤ 0
-  → weight_at (packed_tree f outers starts indices values) level parent ≡ root_weight f outers
+    → weight_at (packed_tree f outers starts indices values) level parent ≡ root_weight f outers
 root_weight_is form.PackedOne outers starts indices values zero parent first = ap bits (length-placed (λ k. get_or outers k 0) 0 (length outers))
 root_weight_is (form.DensePacked outer lines) outers starts indices values zero parent first = refl
 root_weight_is (form.PackedPacked outer) outers starts indices values zero parent first = ap bits (length-placed (λ k. get_or outers k 0) 0 (length outers))
@@ -105,9 +105,9 @@ dense_none lines index past = sym (made_none (λ k. k) (λ k. k) 0 lines index (
 
 -- `entry`, below a node of level 0
 pub node_entry : (f : Form) (outers starts indices values : List ℕ) (level parent from place : ℕ) → IsPacked f outers starts indices values
-  → 0 < level → IsParent (packed_tree f outers starts indices values) level parent → from ≡ packed_start starts level parent
-  → from ≤ place → place < from + length (packed_children f outers starts indices level parent)
-  → slice_get (packed_children f outers starts indices level parent) (place - from) ≡ Some (get_or indices place 0, place)
+    → 0 < level → IsParent (packed_tree f outers starts indices values) level parent → from ≡ packed_start starts level parent
+    → from ≤ place → place < from + length (packed_children f outers starts indices level parent)
+    → slice_get (packed_children f outers starts indices level parent) (place - from) ≡ Some (get_or indices place 0, place)
 node_entry f outers starts indices values level parent from place p later is begins low high =
     let line = node_line f outers starts indices values level parent p later is in
     let at : from ≡ get_or starts parent 0 = begins ∙ start_of starts level parent later in
@@ -118,8 +118,8 @@ node_entry f outers starts indices values level parent from place p later is beg
     (placed_at (λ k. get_or indices k 0) from (to - from) place low (omega arith)))
 
 pub node_place : (f : Form) (outers starts indices values : List ℕ) (level parent from place : ℕ) → IsPacked f outers starts indices values
-  → 0 < level → IsParent (packed_tree f outers starts indices values) level parent → from ≡ packed_start starts level parent
-  → place < from + length (packed_children f outers starts indices level parent) → place < length indices
+    → 0 < level → IsParent (packed_tree f outers starts indices values) level parent → from ≡ packed_start starts level parent
+    → place < from + length (packed_children f outers starts indices level parent) → place < length indices
 node_place f outers starts indices values level parent from place p later is begins high =
     let line = node_line f outers starts indices values level parent p later is in
     let at : from ≡ get_or starts parent 0 = begins ∙ start_of starts level parent later in
@@ -127,14 +127,14 @@ node_place f outers starts indices values level parent from place p later is beg
 
 -- `entry`, below the root
 pub root_place : (f : Form) (outers starts indices values : List ℕ) (level parent from place : ℕ) → IsPacked f outers starts indices values
-  → level ≤ 0 → from ≡ packed_start starts level parent → place < from + length (packed_children f outers starts indices level parent) → place < width_of f outers
+    → level ≤ 0 → from ≡ packed_start starts level parent → place < from + length (packed_children f outers starts indices level parent) → place < width_of f outers
 root_place f outers starts indices values level parent from place p first begins high =
     let line = root_line f outers starts indices values level parent p first in
     omega (arith, line.count, start_of_root starts level parent first)
 
 pub root_entry : (f : Form) (outers starts indices values : List ℕ) (level parent from place : ℕ) → IsPacked f outers starts indices values
-  → level ≤ 0 → from ≡ packed_start starts level parent → from ≤ place → place < from + length (packed_children f outers starts indices level parent)
-  → slice_get (packed_children f outers starts indices level parent) (place - from) ≡ Some (outer_index f outers place, place)
+    → level ≤ 0 → from ≡ packed_start starts level parent → from ≤ place → place < from + length (packed_children f outers starts indices level parent)
+    → slice_get (packed_children f outers starts indices level parent) (place - from) ≡ Some (outer_index f outers place, place)
 root_entry f outers starts indices values level parent from place p first begins low high =
     let line = root_line f outers starts indices values level parent p first in
     let at : from ≡ 0 = begins ∙ start_of_root starts level parent first in
@@ -145,9 +145,9 @@ root_entry f outers starts indices values level parent from place p first begins
 
 -- the line that `line` gives, below a node of level 0
 pub node_line_at : (f : Form) (outers starts indices values : List ℕ) (level parent from to : ℕ) → IsPacked f outers starts indices values
-  → 0 < level → IsParent (packed_tree f outers starts indices values) level parent → from ≡ packed_start starts level parent
-  → to ≡ from + length (packed_children f outers starts indices level parent)
-  → IsLineIn (λ k. get_or indices k 0) (length indices) (packed_children f outers starts indices level parent) from to
+    → 0 < level → IsParent (packed_tree f outers starts indices values) level parent → from ≡ packed_start starts level parent
+    → to ≡ from + length (packed_children f outers starts indices level parent)
+    → IsLineIn (λ k. get_or indices k 0) (length indices) (packed_children f outers starts indices level parent) from to
 node_line_at f outers starts indices values level parent from to p later is begins ends =
     let line = node_line f outers starts indices values level parent p later is in
     let at : get_or starts parent 0 ≡ from = sym (begins ∙ start_of starts level parent later) in
@@ -161,7 +161,7 @@ root_children f outers starts indices (suc level) parent first = absurd (omega a
 
 -- the indices of a packed level 0
 pub outers_rise : (f : Form) (outers : List ℕ) → RisesBetween (outer_index f outers) 0 (width_of f outers) → (f ≡ form.PackedOne) ⊎ ((a : Axis) × (f ≡ form.PackedPacked a))
-  → RisesBetween (λ k. get_or outers k 0) 0 (length outers)
+    → RisesBetween (λ k. get_or outers k 0) 0 (length outers)
 outers_rise f outers rises is = ⊎_elim
     (λ (one : f ≡ form.PackedOne). subst (λ f. RisesBetween (outer_index f outers) 0 (width_of f outers)) one rises)
     (λ (two : (a : Axis) × (f ≡ form.PackedPacked a)). subst (λ f. RisesBetween (outer_index f outers) 0 (width_of f outers)) two.1 rises)

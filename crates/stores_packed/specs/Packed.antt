@@ -54,6 +54,9 @@ root_weight (form.PackedPacked outer) outers = bits (length outers)
 abbrev pub placed : (ℕ → ℕ) → ℕ → ℕ → List (ℕ × ℕ)
 placed index from count = made index (λ k. k) from count
 
+abbrev pub level_0 : Form → List ℕ → List (ℕ × ℕ)
+level_0 f outers = placed (outer_index f outers) 0 (width_of f outers)
+
 abbrev pub packed_nodes : Form → List ℕ → List ℕ → ℕ → ℕ
 packed_nodes f outers indices zero = 1
 packed_nodes f outers indices (suc zero) = width_of f outers
@@ -64,7 +67,7 @@ packed_start starts zero parent = 0
 packed_start starts (suc level) parent = slice_index starts parent
 
 abbrev pub packed_children : Form → List ℕ → List ℕ → List ℕ → ℕ → ℕ → List (ℕ × ℕ)
-packed_children f outers starts indices zero parent = placed (outer_index f outers) 0 (width_of f outers)
+packed_children f outers starts indices zero parent = level_0 f outers
 packed_children f outers starts indices (suc level) parent =
     placed (slice_index indices) (slice_index starts parent) (slice_index starts (parent + 1) - slice_index starts parent)
 

@@ -1,10 +1,10 @@
 -- The arrays of a packed store are a tree.
-use Rattle.std.proofs.Common.{◌≡◌, ℕ, zero, suc, ◌+◌, ◌-◌, ◌^◌, ◌<◌, ◌≤◌, Bool, true, List, length, get_or, refl, arith}
+use Rattle.std.proofs.Common.{ℕ, zero, suc, ◌+◌, ◌-◌, ◌^◌, ◌<◌, ◌≤◌, List, length, get_or, refl, arith}
 use Rattle.std.specs.List.{All, AllPairs, count_by}
 use Rattle.std.specs.Prelude.{◌==◌}
 use Rattle.format_model.specs.Levels.{levels_of}
 use Rattle.format_model.specs.Made.{made_all, made_once, made_rises}
-use Rattle.format_model.specs.Trees.{Tree, IsTree, IsParent, ordered_at}
+use Rattle.format_model.specs.Trees.{IsTree, IsParent}
 use Rattle.format_model.specs.declared.limits.TheConstants.{MOST_INDEX}
 use Rattle.stores_packed.specs.declared.form.Form.{Form}
 use Rattle.stores_packed.specs.declared.form.Form.TheVariants as form
@@ -30,7 +30,7 @@ pub record AreChildren (bound : ℕ) (children : List (ℕ × ℕ)) : Type 0 whe
 
 -- the places from one to another that lie below the bound have such children
 pub placed_are_children : (index : ℕ → ℕ) (from count bound : ℕ) → from + count ≤ bound → RisesBetween index from (from + count)
-  → ((k : ℕ) → from ≤ k → k < from + count → index k < 2 ^ 32) → AreChildren bound (placed index from count)
+    → ((k : ℕ) → from ≤ k → k < from + count → index k < 2 ^ 32) → AreChildren bound (placed index from count)
 placed_are_children index from count bound below rises small = record {
   within = made_all (λ c. c.1 < bound) index (λ k. k) from count (λ k low high. omega arith);
   once = λ i. made_once index (λ k. k) from count i (λ a b low up high same. let less : index a < index b = rises a b low up high in omega arith);
@@ -39,8 +39,8 @@ placed_are_children index from count bound below rises small = record {
 }
 
 children_of : (f : Form) (outers starts indices values : List ℕ) → IsPacked f outers starts indices values
-  → (level parent : ℕ) → IsParent (packed_tree f outers starts indices values) level parent
-  → AreChildren (packed_nodes f outers indices (suc level)) (packed_children f outers starts indices level parent)
+    → (level parent : ℕ) → IsParent (packed_tree f outers starts indices values) level parent
+    → AreChildren (packed_nodes f outers indices (suc level)) (packed_children f outers starts indices level parent)
 children_of f outers starts indices values p zero parent is =
     placed_are_children (outer_index f outers) 0 (width_of f outers) (width_of f outers) (omega arith) (λ i j low up high. p.outer_rises i j low up (omega arith)) (λ k low high. p.outer_small k (omega arith))
 children_of f outers starts indices values p (suc zero) parent is =

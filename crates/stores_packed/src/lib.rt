@@ -4,10 +4,11 @@
 //! Rows, columns and lines count from 0. A line is a row or a column, by the axis of the outer level.
 #![tactic(auto)]
 
-mod axes;
 mod filling;
 mod form;
 mod halving;
+mod lines;
+mod squeezing;
 mod store;
 
 pub use store::PackedStore;

@@ -1,5 +1,4 @@
-use Rattle.std.proofs.Common.{◌≡◌, ◌<◌, ◌≤◌, ◌+◌, ◌-◌, Some, List, ℕ, length, get_or, sym, ap, ◌∙◌, subst, arith}
-use Rattle.stores_packed.specs.Packed.{packed_start, packed_children, outer_index, placed, width_of}
+use Rattle.std.proofs.Common.{Some, length, sym, ap, ◌∙◌, arith}
 use Rattle.stores_packed.proofs.TreeLemmas.{node_entry, node_place, read_at, root_entry, root_place}
 use Rattle.stores_packed.proofs.store.PackedStoreAccess.entry.Goals as goal
 

@@ -1,5 +1,4 @@
-use Rattle.std.proofs.Common.{◌≡◌, ◌<◌, ◌≤◌, ◌+◌, ◌-◌, List, ℕ, length, get_or, arith}
-use Rattle.stores_packed.specs.Packed.{packed_children, width_of}
+use Rattle.std.proofs.Common.{◌≡◌, ◌+◌, length, get_or, arith}
 use Rattle.stores_packed.proofs.TreeLemmas.{node_line, node_starts, read_at, root_line}
 use Rattle.stores_packed.proofs.store.PackedStoreAccess.line.Goals as goal
 

@@ -1,23 +1,12 @@
 ghost use Rattle.std.specs.Prelude.{◌≡◌, ℕ};
-ghost use Rattle.format_model.specs.Axes.{across, extent_of, index_of};
-ghost use Rattle.stores_packed.specs.Lines.{HasLines};
+ghost use Rattle.format_model.specs.Axes.{extent_of, index_of};
+ghost use Rattle.format_model.specs.Laws.{IsSide};
 
 use bern_base::{Axis, Entry, Matrix};
 
-/// The axis of the indices within a line.
-pub fn across(axis: Axis) -> Axis
-    ensures { result ≡ across axis }
-{
-    match axis {
-        Axis::Row => Axis::Col,
-        Axis::Col => Axis::Row,
-        Axis::Both => Axis::Both,
-    }
-}
-
 /// How many lines a matrix has.
 pub fn lines_in(axis: Axis, part: &Matrix) -> u32
-    requires { HasLines axis }
+    requires { IsSide axis }
     ensures { result ≡ extent_of axis part.now.rows part.now.cols }
 {
     match axis {
@@ -29,7 +18,7 @@ pub fn lines_in(axis: Axis, part: &Matrix) -> u32
 
 /// The index of an entry on an axis: its row or its column.
 pub fn index_on(axis: Axis, entry: &Entry) -> u32
-    requires { HasLines axis }
+    requires { IsSide axis }
     ensures { (cols : ℕ) → result ≡ index_of axis cols entry.now }
 {
     match axis {
