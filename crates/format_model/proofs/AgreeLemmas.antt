@@ -15,15 +15,12 @@ use Rattle.bern_base.specs.declared.shape.Shape.TheVariants as shape
 use Rattle.format_model.specs.Axes.{index_of}
 use Rattle.format_model.specs.Content.{all_lines, local_rows, rows_by_count}
 use Rattle.format_model.specs.Elements.{entry_at, value_among}
-use Rattle.format_model.specs.Laws.{IsSide, ListsTheStoredValues, StoredElementsHaveTheirValues, TheTestAgreesWithTheList}
+use Rattle.format_model.specs.Laws.{ListsTheStoredValues, StoredElementsHaveTheirValues, TheTestAgreesWithTheList}
 use Rattle.format_model.specs.Stored.{all_elements, has_entry_at, is_on_diagonal, stands_at}
-use Rattle.format_model.proofs.ContentLemmas.{index_inside, once_in_range}
+use Rattle.format_model.proofs.ContentLemmas.{index_inside, once_in_range, row_side}
 use Rattle.format_model.proofs.LookupLemmas.{has_entry-value_among}
 use Rattle.format_model.proofs.OrderLemmas.{once_by_count, once_in_order}
 use Rattle.format_model.proofs.ValueLemmas.{all_value, dense_value, dense_vector_value, filled_value, line_value, listed_diagonal_value, number_value, stored_diagonal_value, vector_value}
-
-row_side : IsSide axis.Row
-row_side same = cc
 
 pub lists-the_stored_values : ListsTheStoredValues
 lists-the_stored_values shape.DenseOne globals order m is suits row col high low = dense_vector_value m row col suits high low ∙ sym (all_value m row col high low)

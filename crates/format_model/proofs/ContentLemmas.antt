@@ -20,6 +20,9 @@ use Rattle.format_model.specs.Elements.{elements_on, line_element, line_elements
 use Rattle.format_model.specs.Laws.{IsSide}
 use Rattle.format_model.proofs.LineLemmas.{count_of, dealt, dealt-permutation}
 
+pub row_side : IsSide axis.Row
+row_side same = cc
+
 -- an entry is the element of its line, of its index across and of its value
 entry_back : (a : Axis) (cols l : ℕ) (e : Entry) → IsSide a → index_of a cols e ≡ l → line_element a l (leaf_on (across a) cols e) ≡ e
 entry_back axis.Row cols l e side here = ap (λ r. record { row = r; col = e.col; value = e.value }) (sym here)

@@ -113,6 +113,9 @@ banded = record { rows = 3; cols = 3; entries = entry 0 0 1 ∷ entry 0 2 2 ∷ 
 diagonal : content_of three_diagonals whole [] banded ≡ Two ((0, (0, 1) ∷ (2, 2) ∷ []) ∷ (1, (0, 3) ∷ (1, 0) ∷ []) ∷ (2, (1, 0) ∷ (2, 4) ∷ []) ∷ [])
 diagonal = refl
 
+diagonals_of_three : content_of (shape.Diagonal (negsuc 0 ∷ pos 1 ∷ pos 2 ∷ [])) whole [] matrix ≡ Two ((0, (1, 2) ∷ (2, 1) ∷ []) ∷ (1, (0, 0) ∷ (2, 0) ∷ []) ∷ (2, (1, 5) ∷ []) ∷ [])
+diagonals_of_three = refl
+
 -- a part with the rows 1 and 2 of the array: the diagonals are those of the array
 abbrev pub last_rows : Matrix
 last_rows = record { rows = 2; cols = 3; entries = entry 0 0 3 ∷ entry 1 2 4 ∷ [] }

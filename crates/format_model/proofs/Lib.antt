@@ -9,9 +9,11 @@ pub mod DigitLemmas
 pub mod ElementExamples
 pub mod Examples
 pub mod GridLemmas
+pub mod IndexLemmas
 pub mod LineLemmas
 pub mod LookupLemmas
 pub mod OnceLemmas
 pub mod OrderLemmas
+pub mod RiseLemmas
 pub mod SearchLemmas
 pub mod ValueLemmas

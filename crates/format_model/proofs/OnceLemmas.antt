@@ -14,8 +14,8 @@ use Rattle.bern_base.specs.declared.matrix.Matrix.{Matrix}
 use Rattle.bern_base.specs.declared.shape.Shape.TheVariants as shape
 use Rattle.format_model.specs.Content.{One, all_lines, filled_lines, leaf_on, local_rows, rows_by_count}
 use Rattle.format_model.specs.Elements.{elements_on, entry_at, leaf_element}
-use Rattle.format_model.specs.Laws.{EachStoredElementOnce, IsSide}
-use Rattle.format_model.proofs.ContentLemmas.{in_all_lines, in_filled_lines, lines-permutation}
+use Rattle.format_model.specs.Laws.{EachStoredElementOnce}
+use Rattle.format_model.proofs.ContentLemmas.{in_all_lines, in_filled_lines, lines-permutation, row_side}
 use Rattle.format_model.proofs.DenseLemmas.{dense-permutation, vector_elements}
 use Rattle.format_model.proofs.DiagonalLemmas.{diagonal-permutation}
 use Rattle.format_model.proofs.OrderLemmas.{in_local_rows, in_rows_by_count}
@@ -38,9 +38,6 @@ vector_back m one e inside = let first : 0 ≡ e.col = omega (arith, one, inside
 number_back : (m : Matrix) (e : Entry) → IsInside m.rows m.cols e → leaf_element axis.Both m.cols (leaf_on axis.Both m.cols e) ≡ e
 number_back m e inside =
     ap (λ r. entry_at r (number m.cols e % m.cols) e.value) (div-mul-add e.row m.cols e.col inside.1) ∙ ap (λ c. entry_at e.row c e.value) (mod-mul-add e.row m.cols e.col inside.1)
-
-row_side : IsSide axis.Row
-row_side same = cc
 
 pub each-stored_element-once : EachStoredElementOnce
 each-stored_element-once shape.DenseOne globals order m is suits = same-permutation _ _ (vector_elements m suits)

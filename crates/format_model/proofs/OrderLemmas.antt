@@ -58,7 +58,7 @@ count-cons_option : (x : ℕ) (o : Option ℕ) (xs : List ℕ) → count_of x (c
 count-cons_option x None xs = omega arith
 count-cons_option x (Some y) xs = omega (arith, sum_by-cons (λ z. cond (z == x) 1 0) y xs, sum_by-cons (λ z. cond (z == x) 1 0) y [])
 
-count-filter_map : (h : ℕ → Option ℕ) (p : ℕ → Bool) (x : ℕ) → ((y : ℕ) → count_of x (cons_option (h y) []) ≡ cond (p y) 1 0) → (ys : List ℕ) → count_of x (filter_map h ys) ≡ count_by p ys
+pub count-filter_map : (h : ℕ → Option ℕ) (p : ℕ → Bool) (x : ℕ) → ((y : ℕ) → count_of x (cons_option (h y) []) ≡ cond (p y) 1 0) → (ys : List ℕ) → count_of x (filter_map h ys) ≡ count_by p ys
 count-filter_map h p x each [] = refl
 count-filter_map h p x each (y ∷ ys) =
     omega (arith, count-cons_option x (h y) (filter_map h ys), each y, count-filter_map h p x each ys, sum_by-cons (λ z. cond (p z) 1 0) y ys)
@@ -67,7 +67,7 @@ count-filter_map h p x each (y ∷ ys) =
 count_some : (x : ℕ) (o : Option ℕ) → o ≡ Some x → count_of x (cons_option o []) ≡ 1
 count_some x o is = let one : cond (x == x) 1 0 ≡ 1 = cond-true {A = ℕ} (x == x) 1 0 (eq-eqb x x refl) in rw is (omega (arith, one))
 
-count_other : (x : ℕ) (o : Option ℕ) → (o ≡ Some x → ⊥) → count_of x (cons_option o []) ≡ 0
+pub count_other : (x : ℕ) (o : Option ℕ) → (o ≡ Some x → ⊥) → count_of x (cons_option o []) ≡ 0
 count_other x None other = refl
 count_other x (Some y) other = let none : cond (y == x) 1 0 ≡ 0 = cond-false {A = ℕ} (y == x) 1 0 (ne_eqb y x (λ same. other (ap Some same))) in omega (arith, none)
 

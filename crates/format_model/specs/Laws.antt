@@ -1,6 +1,6 @@
 -- Laws of the table of formats and of trees.
-use Rattle.std.specs.Prelude.{◌≡◌, ◌≢◌, ℕ, suc, ◌*◌, ◌<◌, ◌≤◌, ◌<ℤ◌, List, [], ◌∷◌, length, Option, Some, None, ◌^◌, if◌then◌else◌}
-use Rattle.std.specs.List.{All, AllPairs, range_with_len}
+use Rattle.std.specs.Prelude.{◌≡◌, ◌==◌, true, ◌≢◌, ℕ, suc, ◌*◌, ◌<◌, ◌≤◌, ◌<ℤ◌, List, [], ◌∷◌, length, Option, Some, None, ◌^◌, if◌then◌else◌}
+use Rattle.std.specs.List.{All, AllPairs, count_by, range_with_len}
 use Rattle.std.specs.List.Sorted.{IsPermutation, IsStrictlyIncreasing}
 use Rattle.std.specs.Option.{option_and_then, option_map}
 use Rattle.bern_base.specs.Matrix.{IsMatrix, element, number}
@@ -9,9 +9,9 @@ use Rattle.bern_base.specs.declared.axes.Axis.TheVariants as axis
 use Rattle.bern_base.specs.declared.matrix.Matrix.{Matrix}
 use Rattle.bern_base.specs.declared.shape.Shape.{Shape}
 use Rattle.bern_base.specs.declared.shape.Shape.TheVariants as shape
-use Rattle.format_model.specs.Content.{content_of}
+use Rattle.format_model.specs.Content.{Content, One, Two, content_of}
 use Rattle.format_model.specs.Elements.{elements_of, entry_at, path_of, value_among, value_at}
-use Rattle.format_model.specs.Levels.{bits}
+use Rattle.format_model.specs.Levels.{Level, bits, level_at, levels_of}
 use Rattle.format_model.specs.Stored.{has_entry_at, is_stored, stored_elements}
 use Rattle.format_model.specs.Trees.{Describes, Tree, child_at, content, depth_of}
 
@@ -85,6 +85,29 @@ abbrev pub TheTestAgreesWithTheList : Type 0
 TheTestAgreesWithTheList =
     (s : Shape) (m : Matrix) (row col : ℕ) → row < m.rows → col < m.cols →
     has_entry_at (stored_elements s (range_with_len 0 m.rows) m) row col ≡ is_stored s m.entries row col
+
+-- in a content with these levels, indices rise strictly where the level is ordered
+abbrev pub RisesIn : List Level → Content → Type 0
+RisesIn levels (One leaves) = (level_at levels 0).ordered ≡ true → AllPairs (λ a b. a.0 < b.0) leaves
+RisesIn levels (Two lines) =
+    ((level_at levels 0).ordered ≡ true → AllPairs (λ a b. a.0 < b.0) lines)
+    × ((level_at levels 1).ordered ≡ true → All (λ line. AllPairs (λ a b. a.0 < b.0) line.1) lines)
+
+-- what the table says of order is so
+abbrev pub OrderedLevelsRise : Type 0
+OrderedLevelsRise = (s : Shape) (globals order : List ℕ) (m : Matrix) → IsMatrix m → Suits s globals order m → RisesIn (levels_of s) (content_of s globals order m)
+
+-- no index stands twice among these
+abbrev pub HasEachOnce : {X : Type 0} → List (ℕ × X) → Type 0
+HasEachOnce children = (index : ℕ) → count_by (λ c. c.0 == index) children ≤ 1
+
+abbrev pub HasEachIndexOnce : Content → Type 0
+HasEachIndexOnce (One leaves) = HasEachOnce leaves
+HasEachIndexOnce (Two lines) = HasEachOnce lines × All (λ line. HasEachOnce line.1) lines
+
+-- no format lists an index twice below a parent
+abbrev pub NoIndexStandsTwice : Type 0
+NoIndexStandsTwice = (s : Shape) (globals order : List ℕ) (m : Matrix) → IsMatrix m → Suits s globals order m → HasEachIndexOnce (content_of s globals order m)
 
 -- ---- trees that describe a part
 

@@ -5,6 +5,8 @@ ghost use Rattle.format_model.specs.Laws.{
   DescribedPartsAreHeld,
   EachStoredElementOnce,
   ListsTheStoredValues,
+  NoIndexStandsTwice,
+  OrderedLevelsRise,
   SearchesFindTheContent,
   StoredElementsHaveTheirValues,
   TheTestAgreesWithTheList,
@@ -28,6 +30,16 @@ pub fn each_stored_element_once()
 /// At the indices of an element a format lists the value that it is stored with, and none where it is not stored.
 pub fn lists_the_stored_values()
     ensures { ListsTheStoredValues }
+{}
+
+/// No format lists an index twice below a parent.
+pub fn no_index_stands_twice()
+    ensures { NoIndexStandsTwice }
+{}
+
+/// Where a format calls a level ordered, the indices that it lists there rise.
+pub fn ordered_levels_rise()
+    ensures { OrderedLevelsRise }
 {}
 
 /// A stored element has the value of the matrix there.

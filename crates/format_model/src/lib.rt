@@ -11,6 +11,7 @@ mod limits;
 pub use axes::{across, extent_of, index_of, is_same_axis};
 pub use laws::{
     bits_count_digits, described_parts_are_held, each_stored_element_once, lists_the_stored_values,
-    searches_find_the_content, stored_elements_have_their_values, the_test_agrees_with_the_list,
+    no_index_stands_twice, ordered_levels_rise, searches_find_the_content,
+    stored_elements_have_their_values, the_test_agrees_with_the_list,
 };
 pub use limits::MOST_INDEX;
