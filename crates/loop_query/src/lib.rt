@@ -1,0 +1,12 @@
+//! The terms of a loop nest: its body as a sum of products, and what a product is by its references.
+//!
+//! Arrays, variables, references and levels count from 0.
+#![tactic(auto)]
+
+mod expressions;
+mod nest;
+mod products;
+mod references;
+
+pub use term_model::{Plan, PlanStep, PlannedTerm, Plans, Term};
+pub use nest::terms;
