@@ -1,6 +1,6 @@
 -- The values of the terms sum to the value of the expression. Over whole numbers, and modulo m at the end.
 use Rattle.std.proofs.Common.{◌≡◌, ◌∙◌, ℕ, zero, suc, ◌+◌, ◌-◌, ◌*◌, ◌%◌, ◌^◌, ◌<◌, Bool, true, false, if◌then◌else◌, List, [], ◌∷◌, ◌++◌, map, length, get_or, refl, sym, ap, subst, arith}
-use Rattle.std.proofs.Math.Nat.{add-zero, mul-zero, one-mul, mul-one, mul-suc, suc-mul, zero-mod, mul_comm, mul_assoc, mul-mul-mul_comm, mod_self, mod-lt, mod-mod, mul-add-mod_self_left}
+use Rattle.std.proofs.Math.Nat.{add-zero, mul-zero, one-mul, mul-one, mul-suc, suc-mul, zero-mod, sub-zero, mul_comm, mul_assoc, mul-mul-mul_comm, mod_self, mod-lt, mod-mod, mul-add-mod_self_left}
 use Rattle.std.proofs.lemmas.List.{map-append}
 use Rattle.std.proofs.lemmas.List.Sums.{sum_by-cons}
 use Rattle.std.proofs.lemmas.Nat.{mul-mod_first, mul-mod_second, mul-mod}
@@ -21,7 +21,7 @@ product_of-append : (xs ys : List ℕ) → product_of (xs ++ ys) ≡ product_of 
 product_of-append [] ys = sym (one-mul (product_of ys))
 product_of-append (x ∷ xs) ys = ap (λ p. x * p) (product_of-append xs ys) ∙ sym (mul_assoc x (product_of xs) (product_of ys))
 
-map_product : (element : Ref → ℕ) (xs ys : List Ref) → product_of (map element (xs ++ ys)) ≡ product_of (map element xs) * product_of (map element ys)
+pub map_product : (element : Ref → ℕ) (xs ys : List Ref) → product_of (map element (xs ++ ys)) ≡ product_of (map element xs) * product_of (map element ys)
 map_product element xs ys = ap product_of (map-append element xs ys) ∙ product_of-append (map element xs) (map element ys)
 
 -- the value of a term before it is reduced
@@ -95,7 +95,7 @@ negative : (k p : ℕ) → k * p % suc k ≡ (suc k - p % suc k) % suc k
 negative k p = sym (mul-mod_second k p (suc k)) ∙ by_rest (p % suc k) (mod-lt p (omega arith))
   where
     by_rest : (r : ℕ) → r < suc k → k * r % suc k ≡ (suc k - r) % suc k
-    by_rest zero below = ap (λ n. n % suc k) (mul-zero k) ∙ zero-mod (suc k) ∙ sym (mod_self (suc k))
+    by_rest zero below = ap (λ n. n % suc k) (mul-zero k) ∙ zero-mod (suc k) ∙ sym (mod_self (suc k)) ∙ ap (λ n. n % suc k) (sym (sub-zero (suc k)))
     by_rest (suc q) below =
         let whole : k * suc q ≡ suc k * q + (suc k - suc q) = omega (arith, mul-suc k q, suc-mul k q) in
         ap (λ n. n % suc k) whole ∙ mul-add-mod_self_left (suc k) q (suc k - suc q)

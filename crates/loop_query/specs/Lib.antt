@@ -1,0 +1,2 @@
+pub mod ActivityLaws
+pub mod TermLaws

@@ -4,9 +4,11 @@
 #![tactic(auto)]
 
 mod expressions;
+mod laws;
 mod nest;
 mod products;
 mod references;
 
+pub use laws::{active_terms_sum, active_terms_sum_in_turns, terms_are_few, terms_read_the_body, terms_sum};
 pub use term_model::{Plan, PlanStep, PlannedTerm, Plans, Term};
 pub use nest::terms;

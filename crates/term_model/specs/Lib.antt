@@ -1,1 +1,4 @@
+pub mod Activity
+pub mod Answers
+pub mod Plans
 pub mod Terms
