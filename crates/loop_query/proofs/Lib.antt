@@ -1,4 +1,6 @@
 pub mod ActivityLemmas
+pub mod FreeLemmas
+pub mod PlanLemmas
 pub mod ProductLemmas
 pub mod SizeLemmas
 pub mod SumLemmas

@@ -1,2 +1,3 @@
 pub mod ActivityLaws
+pub mod PlanLaws
 pub mod TermLaws

@@ -1,6 +1,7 @@
 //! Laws of terms and plans. Each function does nothing: its contract is the law.
 
 ghost use Rattle.loop_query.specs.ActivityLaws.{InactiveTermsAddNothing, ZerosStay, ActiveTermsSum, ActiveTermsSumInTurns, FilesBeginWithZeros};
+ghost use Rattle.loop_query.specs.PlanLaws.{ListedPlansAreReady, ReadyPlansAreListed, SomePlanIsListed};
 ghost use Rattle.loop_query.specs.TermLaws.{TermsSum, TermsHaveSizes, TermsAreFew, TermsAreToldApart, TermsReadTheBody};
 
 /// At every point and in every state the values of the terms sum to the value of the expression.
@@ -31,4 +32,11 @@ pub fn active_terms_sum_in_turns()
     ensures stay { ZerosStay }
     ensures sum { ActiveTermsSumInTurns }
     ensures files { FilesBeginWithZeros }
+{}
+
+/// The list of plans holds the sequences of ready steps that bind all variables, these alone, and at least one.
+pub fn plans_are_ready_steps()
+    ensures ready { ListedPlansAreReady }
+    ensures all { ReadyPlansAreListed }
+    ensures some { SomePlanIsListed }
 {}

@@ -9,6 +9,6 @@ mod nest;
 mod products;
 mod references;
 
-pub use laws::{active_terms_sum, active_terms_sum_in_turns, terms_are_few, terms_read_the_body, terms_sum};
+pub use laws::{active_terms_sum, active_terms_sum_in_turns, plans_are_ready_steps, terms_are_few, terms_read_the_body, terms_sum};
 pub use term_model::{Plan, PlanStep, PlannedTerm, Plans, Term};
 pub use nest::terms;
