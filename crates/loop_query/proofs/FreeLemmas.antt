@@ -34,7 +34,7 @@ contains_filter p (y ∷ xs) x (suc k, below, is) pass = kept (p y) (contains_fi
 pub filtered_in : {X : Type 0} (p : X → Bool) (xs : List X) (x : X) → Contains (filter p xs) x → Contains xs x
 filtered_in p xs x within = All-contains (Contains xs) (filter p xs) x (All-filter p (Contains xs) xs (All-contains_itself xs)) within
 
-filtered_passes : {X : Type 0} (p : X → Bool) (xs : List X) (x : X) → Contains (filter p xs) x → p x ≡ true
+pub filtered_passes : {X : Type 0} (p : X → Bool) (xs : List X) (x : X) → Contains (filter p xs) x → p x ≡ true
 filtered_passes p xs x within = All-contains (λ y. p y ≡ true) (filter p xs) x (filter_passes p xs) within
 
 -- the four variables

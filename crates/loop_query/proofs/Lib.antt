@@ -1,5 +1,7 @@
 pub mod ActivityLemmas
+pub mod AnswerLemmas
 pub mod FreeLemmas
+pub mod MeasuredLemmas
 pub mod PlanLemmas
 pub mod ProductLemmas
 pub mod SizeLemmas

@@ -1,7 +1,8 @@
 //! Laws of terms and plans. Each function does nothing: its contract is the law.
 
 ghost use Rattle.loop_query.specs.ActivityLaws.{InactiveTermsAddNothing, ZerosStay, ActiveTermsSum, ActiveTermsSumInTurns, FilesBeginWithZeros};
-ghost use Rattle.loop_query.specs.PlanLaws.{ListedPlansAreReady, ReadyPlansAreListed, SomePlanIsListed};
+ghost use Rattle.loop_query.specs.AnswerLaws.{AnswersAreActivePoints};
+ghost use Rattle.loop_query.specs.PlanLaws.{FormatsTellPlans, ListedPlansAreReady, ReadyPlansAreListed, SomePlanIsListed};
 ghost use Rattle.loop_query.specs.TermLaws.{TermsSum, TermsHaveSizes, TermsAreFew, TermsAreToldApart, TermsReadTheBody};
 
 /// At every point and in every state the values of the terms sum to the value of the expression.
@@ -39,4 +40,14 @@ pub fn plans_are_ready_steps()
     ensures ready { ListedPlansAreReady }
     ensures all { ReadyPlansAreListed }
     ensures some { SomePlanIsListed }
+{}
+
+/// The plans of a term by what was measured of its arrays are those by their formats.
+pub fn formats_tell_plans()
+    ensures { FormatsTellPlans }
+{}
+
+/// The points that a rank visits for a term: those of the nest that are at home there, and at which the term is active.
+pub fn answers_are_active_points()
+    ensures { AnswersAreActivePoints }
 {}

@@ -1,7 +1,8 @@
-ghost use Rattle.std.specs.Prelude.{◌≡◌, ◌++◌, OnOk};
-ghost use Rattle.term_model.specs.Terms.{is_dense_in};
+ghost use Rattle.std.specs.Prelude.{◌≡◌, ◌++◌, ◌<◌, length, slice_get, OnOk};
+ghost use Rattle.term_model.specs.Terms.{is_dense_in, references_of};
 
 use bern_base::{Checked, Items, NoMemory, Ref};
+use term_model::Term;
 
 /// Whether all levels of the format of a reference's array are dense.
 pub(crate) fn is_dense(job: &Checked, reference: &Ref) -> bool
@@ -34,4 +35,17 @@ pub(crate) fn append_copies(references: &mut Items<Ref>, more: &[Ref]) -> Result
         references.push(copied(reference))?;
     }
     Ok(())
+}
+
+/// The reference of a term at a place: the dense ones stand first, and then the sparse ones.
+pub fn reference_at(term: &Term, place: usize) -> &Ref
+    requires { place < length (references_of term.now) }
+    ensures { slice_get (references_of term.now) place ≡ Some result.now }
+{
+    let dense = term.dense.len();
+    if place < dense {
+        term.dense.at(place)
+    } else {
+        term.sparse.at(place - dense)
+    }
 }
