@@ -1,21 +1,16 @@
 -- Terms that are not active have the value 0, so the active ones alone sum to the value of the expression.
-use Rattle.std.proofs.Common.{◌≡◌, ◌∙◌, ℕ, zero, suc, ◌+◌, ◌*◌, ◌%◌, ◌^◌, ◌<◌, Bool, true, false, ◌&&◌, cond, List, [], ◌∷◌, ◌++◌, map, length, get_or, ℤ, refl, sym, ap, subst, arith}
+use Rattle.std.proofs.Common.{◌≡◌, ◌∙◌, ℕ, ◌+◌, ◌*◌, ◌%◌, ◌^◌, Bool, true, false, ◌&&◌, cond, List, [], ◌∷◌, map, get_or, refl, sym, ap}
 use Rattle.std.proofs.Math.Nat.{zero-mul, mul-zero, zero-add}
-use Rattle.std.proofs.lemmas.List.Elements.{All-cons, All-head, All-tail}
+use Rattle.std.proofs.lemmas.List.Elements.{All-head, All-tail}
 use Rattle.std.proofs.lemmas.List.Sums.{sum_by-cons}
 use Rattle.std.specs.List.{All, filter, list_all, sum_by}
-use Rattle.bern_base.specs.declared.job.Checked.{Checked}
-use Rattle.bern_base.specs.declared.job.Expr.{Expr}
 use Rattle.bern_base.specs.declared.job.Ref.{Ref}
 use Rattle.bern_base.specs.declared.limits.TheConstants.{EXPRESSION_LEVELS}
 use Rattle.job_model.specs.Elements.{element_of}
-use Rattle.job_model.specs.State.{State}
 use Rattle.job_model.specs.Values.{product_of, read_at}
-use Rattle.term_model.specs.declared.term.Term.{Term}
-use Rattle.term_model.specs.Activity.{Entries, HoldsZeros, SparseHoldZeros, is_stored_at, is_active}
-use Rattle.term_model.specs.Terms.{terms_by, terms_of, references_of, term_value, value_of_term, is_dense_in}
+use Rattle.term_model.specs.Activity.{is_stored_at, is_active}
+use Rattle.term_model.specs.Terms.{terms_of, value_of_term, is_dense_in}
 use Rattle.loop_query.specs.ActivityLaws.{InactiveTermsAddNothing, ActiveTermsSum}
-use Rattle.loop_query.specs.TermLaws.{IsToldApart}
 use Rattle.loop_query.proofs.SumLemmas.{map_product, terms_sum}
 use Rattle.loop_query.proofs.ToldLemmas.{terms_are_told_apart}
 
@@ -34,7 +29,7 @@ pub inactive_terms_add_nothing : InactiveTermsAddNothing
 inactive_terms_add_nothing job entries state point t zeros inactive =
     let element = read_at job.arrays state point in
     let none : product_of (map element t.sparse) ≡ 0 =
-        product_none element (is_stored_at job entries point) t.sparse (λ k d below is. zeros k d below (element_of job.arrays (get_or t.sparse k d) point) is) inactive in
+    product_none element (is_stored_at job entries point) t.sparse (λ k d below is. zeros k d below (element_of job.arrays (get_or t.sparse k d) point) is) inactive in
     ap (λ p. t.factor * p % 2 ^ 64) (map_product element t.dense t.sparse ∙ ap (λ p. product_of (map element t.dense) * p) none ∙ mul-zero (product_of (map element t.dense)))
     ∙ ap (λ p. p % 2 ^ 64) (mul-zero t.factor)
 
@@ -54,5 +49,5 @@ active_terms_sum job entries state point e zeros =
     let told = terms_are_told_apart job e in
     ap (λ s. s % 2 ^ 64) (sum_kept (value_of_term job.arrays state point) (is_active job entries point) ts
     (λ k d below. inactive_terms_add_nothing job entries state point (get_or ts k d)
-     (λ j r under. zeros (get_or (get_or ts k d).sparse j r).array ((told k d below).sparse j r under))))
+    (λ j r under. zeros (get_or (get_or ts k d).sparse j r).array ((told k d below).sparse j r under))))
     ∙ terms_sum (read_at job.arrays state point) (is_dense_in job) EXPRESSION_LEVELS e

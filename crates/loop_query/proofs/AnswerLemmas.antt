@@ -1,5 +1,5 @@
 -- The points of an answer.
-use Rattle.std.proofs.Common.{◌≡◌, ◌∙◌, ℕ, ◌==◌, Bool, true, false, ◌&&◌, List, ℤ, refl, sym, ap}
+use Rattle.std.proofs.Common.{◌∙◌, ◌==◌, Bool, ◌&&◌, List, ℤ, ap}
 use Rattle.std.specs.List.{Contains, filter}
 use Rattle.std.proofs.lemmas.Bool.{eq-eqb, eqb-true}
 use Rattle.job_model.specs.Points.{points}
@@ -14,8 +14,8 @@ answers_are_active_points job entries places nest t rank point =
     let active : List ℤ → Bool = λ p. is_active job entries p t in
     let test : List ℤ → Bool = λ p. home p && active p in
     let there : Contains (filter test (points nest)) point → IsAnswer job entries places nest t rank point = λ within.
-        let parts = both_true (home point) (active point) (filtered_passes test (points nest) point within) in
-        record { visited = filtered_in test (points nest) point within; home = eqb-true (home_of job places nest point) rank parts.0; active = parts.1 } in
+    let parts = both_true (home point) (active point) (filtered_passes test (points nest) point within) in
+    record { visited = filtered_in test (points nest) point within; home = eqb-true (home_of job places nest point) rank parts.0; active = parts.1 } in
     let back : IsAnswer job entries places nest t rank point → Contains (filter test (points nest)) point = λ is.
-        contains_filter test (points nest) point is.visited (ap (λ b. b && active point) (eq-eqb (home_of job places nest point) rank is.home) ∙ is.active) in
+    contains_filter test (points nest) point is.visited (ap (λ b. b && active point) (eq-eqb (home_of job places nest point) rank is.home) ∙ is.active) in
     (there, back)

@@ -1,8 +1,7 @@
 -- Products of terms, one term or one place of a list at a time.
-use Rattle.std.proofs.Common.{◌≡◌, ◌∙◌, ℕ, zero, suc, ◌+◌, ◌*◌, ◌%◌, ◌^◌, ◌<◌, ◌≤◌, min, List, [], ◌∷◌, ◌++◌, map, length, take, drop, get_or, set, refl, sym, ap, subst, arith}
+use Rattle.std.proofs.Common.{◌≡◌, ◌∙◌, ℕ, ◌+◌, ◌*◌, ◌%◌, ◌^◌, ◌<◌, ◌≤◌, List, [], ◌∷◌, ◌++◌, map, length, take, drop, get_or, set, refl, sym, ap, arith}
 use Rattle.std.proofs.Math.Nat.{mul-one, mul_comm, mod-eq_of_lt}
 use Rattle.std.proofs.lemmas.List.{append-nil, append_assoc, length-take-le, length-map, drop_all, drop_more, set_at, take_all, get_or_at, map_more, flat_map_more, take_more}
-use Rattle.std.specs.List.{flat_map}
 use Rattle.bern_base.specs.Ring.{ring_mul}
 use Rattle.term_model.specs.declared.term.Term.{Term}
 use Rattle.term_model.specs.Terms.{times, choices, number_term}

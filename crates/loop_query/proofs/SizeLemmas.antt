@@ -3,19 +3,16 @@ use Rattle.std.proofs.Common.{◌≡◌, ◌∙◌, ℕ, zero, suc, ◌+◌, ◌
 use Rattle.std.proofs.lemmas.List.{map-append, length-map, get_or-map}
 use Rattle.std.specs.List.{All, fold, flat_map}
 use Rattle.bern_base.specs.Expressions.{by_levels}
-use Rattle.bern_base.specs.declared.job.Checked.{Checked}
 use Rattle.bern_base.specs.declared.job.Expr.{Expr, out-Expr}
 use Rattle.bern_base.specs.declared.job.Factor.{Factor}
 use Rattle.bern_base.specs.declared.job.Factor.TheVariants as factor
-use Rattle.bern_base.specs.declared.job.Nest.{Nest}
 use Rattle.bern_base.specs.declared.job.Product.{Product}
 use Rattle.bern_base.specs.declared.job.Ref.{Ref}
-use Rattle.bern_base.specs.declared.limits.TheConstants.{EXPRESSION_LEVELS, MOST_REFERENCES, MOST_TERMS}
-use Rattle.job_model.specs.Accepted.{IsNestOf}
+use Rattle.bern_base.specs.declared.limits.TheConstants.{EXPRESSION_LEVELS, MOST_REFERENCES}
 use Rattle.job_model.specs.References.{joined, factor_sizes, product_sizes, sizes_of}
 use Rattle.term_model.specs.declared.term.Term.{Term}
 use Rattle.term_model.specs.Terms.{number_term, read_term, times, choices, sign_of, factor_terms, product_terms, terms_by, terms_of, references_of, is_dense_in}
-use Rattle.loop_query.specs.TermLaws.{counts, TermsHaveSizes, AreFew, TermsAreFew}
+use Rattle.loop_query.specs.TermLaws.{counts, TermsHaveSizes, TermsAreFew}
 
 times_count : (a b : Term) → length (references_of (times a b)) ≡ length (references_of a) + length (references_of b)
 times_count a b =

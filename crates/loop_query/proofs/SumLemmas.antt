@@ -1,10 +1,10 @@
 -- The values of the terms sum to the value of the expression. Over whole numbers, and modulo m at the end.
-use Rattle.std.proofs.Common.{◌≡◌, ◌∙◌, ℕ, zero, suc, ◌+◌, ◌-◌, ◌*◌, ◌%◌, ◌^◌, ◌<◌, Bool, true, false, if◌then◌else◌, List, [], ◌∷◌, ◌++◌, map, length, get_or, refl, sym, ap, subst, arith}
+use Rattle.std.proofs.Common.{◌≡◌, ◌∙◌, ℕ, zero, suc, ◌+◌, ◌-◌, ◌*◌, ◌%◌, ◌^◌, ◌<◌, Bool, true, false, if◌then◌else◌, List, [], ◌∷◌, ◌++◌, map, get_or, refl, sym, ap, arith}
 use Rattle.std.proofs.Math.Nat.{add-zero, mul-zero, one-mul, mul-one, mul-suc, suc-mul, zero-mod, sub-zero, mul_comm, mul_assoc, mul-mul-mul_comm, mod_self, mod-lt, mod-mod, mul-add-mod_self_left}
 use Rattle.std.proofs.lemmas.List.{map-append}
 use Rattle.std.proofs.lemmas.List.Sums.{sum_by-cons}
-use Rattle.std.proofs.lemmas.Nat.{mul-mod_first, mul-mod_second, mul-mod}
-use Rattle.std.specs.List.{All, fold, flat_map, sum_by}
+use Rattle.std.proofs.lemmas.Nat.{mul-mod_first, mul-mod_second}
+use Rattle.std.specs.List.{fold, flat_map, sum_by}
 use Rattle.bern_base.specs.Expressions.{by_levels}
 use Rattle.bern_base.specs.Ring.{ring_mul, ring_neg}
 use Rattle.bern_base.specs.declared.job.Expr.{Expr, out-Expr}
@@ -12,10 +12,10 @@ use Rattle.bern_base.specs.declared.job.Factor.{Factor}
 use Rattle.bern_base.specs.declared.job.Factor.TheVariants as factor
 use Rattle.bern_base.specs.declared.job.Product.{Product}
 use Rattle.bern_base.specs.declared.job.Ref.{Ref}
-use Rattle.bern_base.proofs.SumLemmas.{sum_by-map, sum_by-flat_map, sum_by_agree, sum_by_agree-mod, sum_by-mul}
-use Rattle.job_model.specs.Values.{product_of, factor_value, unsigned_value, product_value, sum_value}
+use Rattle.bern_base.proofs.SumLemmas.{sum_by-map, sum_by-flat_map, sum_by_agree-mod, sum_by-mul}
+use Rattle.job_model.specs.Values.{product_of, factor_value, product_value, sum_value}
 use Rattle.term_model.specs.declared.term.Term.{Term}
-use Rattle.term_model.specs.Terms.{number_term, read_term, times, choices, sign_of, factor_terms, product_terms, terms_by, references_of, term_value}
+use Rattle.term_model.specs.Terms.{number_term, read_term, times, choices, sign_of, factor_terms, product_terms, terms_by, term_value}
 
 product_of-append : (xs ys : List ℕ) → product_of (xs ++ ys) ≡ product_of xs * product_of ys
 product_of-append [] ys = sym (one-mul (product_of ys))
@@ -38,9 +38,9 @@ times_value element a b =
     let d : Term → ℕ = λ t. product_of (map element t.dense) in
     let s : Term → ℕ = λ t. product_of (map element t.sparse) in
     let refs : product_of (map element (a.dense ++ b.dense)) * product_of (map element (a.sparse ++ b.sparse)) ≡ d a * s a * (d b * s b) =
-        ap (λ p. p * product_of (map element (a.sparse ++ b.sparse))) (map_product element a.dense b.dense)
-        ∙ ap (λ p. d a * d b * p) (map_product element a.sparse b.sparse)
-        ∙ mul-mul-mul_comm (d a) (d b) (s a) (s b) in
+    ap (λ p. p * product_of (map element (a.sparse ++ b.sparse))) (map_product element a.dense b.dense)
+    ∙ ap (λ p. d a * d b * p) (map_product element a.sparse b.sparse)
+    ∙ mul-mul-mul_comm (d a) (d b) (s a) (s b) in
     ap (λ p. ring_mul a.factor b.factor * p % 2 ^ 64) refs
     ∙ mul-mod_first (a.factor * b.factor) (d a * s a * (d b * s b)) (2 ^ 64)
     ∙ ap (λ p. p % 2 ^ 64) (mul-mul-mul_comm a.factor b.factor (d a * s a) (d b * s b))
@@ -54,9 +54,9 @@ unfolding total
 choices_total element left right =
     let v = whole_value element in
     let row : (a : Term) → sum_by v (map (times a) right) % 2 ^ 64 ≡ v a * sum_by v right % 2 ^ 64 = λ a.
-        ap (λ s. s % 2 ^ 64) (sum_by-map v (times a) right)
-        ∙ sum_by_agree-mod (2 ^ 64) (λ b. v (times a b)) (λ b. v b * v a) right (λ k e below. times_value element a (get_or right k e) ∙ ap (λ p. p % 2 ^ 64) (mul_comm (v a) (v (get_or right k e))))
-        ∙ ap (λ s. s % 2 ^ 64) (sum_by-mul v (v a) right ∙ mul_comm (sum_by v right) (v a)) in
+    ap (λ s. s % 2 ^ 64) (sum_by-map v (times a) right)
+    ∙ sum_by_agree-mod (2 ^ 64) (λ b. v (times a b)) (λ b. v b * v a) right (λ k e below. times_value element a (get_or right k e) ∙ ap (λ p. p % 2 ^ 64) (mul_comm (v a) (v (get_or right k e))))
+    ∙ ap (λ s. s % 2 ^ 64) (sum_by-mul v (v a) right ∙ mul_comm (sum_by v right) (v a)) in
     ap (λ s. s % 2 ^ 64) (sum_by-flat_map v (λ a. map (times a) right) left)
     ∙ sum_by_agree-mod (2 ^ 64) (λ a. sum_by v (map (times a) right)) (λ a. v a * sum_by v right) left (λ k e below. row (get_or left k e))
     ∙ ap (λ s. s % 2 ^ 64) (sum_by-mul v (sum_by v right) left)
@@ -100,7 +100,6 @@ negative k p = sym (mul-mod_second k p (suc k)) ∙ by_rest (p % suc k) (mod-lt 
         let whole : k * suc q ≡ suc k * q + (suc k - suc q) = omega (arith, mul-suc k q, suc-mul k q) in
         ap (λ n. n % suc k) whole ∙ mul-add-mod_self_left (suc k) q (suc k - suc q)
 
-
 signed : (minus : Bool) (p : ℕ) → sign_of minus * p % 2 ^ 64 ≡ (if minus then ring_neg (p % 2 ^ 64) else p % 2 ^ 64)
 signed true p = negative (2 ^ 64 - 1) p
 signed false p = ap (λ n. n % 2 ^ 64) (one-mul p)
@@ -124,7 +123,7 @@ module _ (element : Ref → ℕ) (dense : Ref → Bool) (inner : Expr → List T
   products_total ps =
       ap (λ s. s % 2 ^ 64) (sum_by-flat_map (whole_value element) (product_terms dense inner) ps)
       ∙ sum_by_agree-mod (2 ^ 64) (λ p. total element (product_terms dense inner p)) (product_value element value) ps
-        (λ k d below. let p = get_or ps k d in sym (mod-mod (total element (product_terms dense inner p)) (2 ^ 64)) ∙ ap (λ s. s % 2 ^ 64) (product_total p))
+      (λ k d below. let p = get_or ps k d in sym (mod-mod (total element (product_terms dense inner p)) (2 ^ 64)) ∙ ap (λ s. s % 2 ^ 64) (product_total p))
 
 terms_total : (element : Ref → ℕ) (dense : Ref → Bool) (levels : ℕ) (e : Expr) → total element (terms_by dense levels e) % 2 ^ 64 ≡ sum_value element levels e
 unfolding total by_levels

@@ -1,5 +1,5 @@
 -- What holds of each term: of numbers and references, and of products of terms.
-use Rattle.std.proofs.Common.{◌≡◌, ◌∙◌, ℕ, zero, suc, ◌<◌, Bool, true, false, List, [], ◌∷◌, ◌++◌, map, length, get_or, refl, sym, ap, subst, arith}
+use Rattle.std.proofs.Common.{◌≡◌, ℕ, zero, suc, ◌<◌, Bool, true, false, List, [], ◌∷◌, map, length, get_or, refl, arith}
 use Rattle.std.proofs.lemmas.List.Elements.{All-nil, All-cons, All-head, All-tail, All-append, All-map}
 use Rattle.std.specs.List.{All, fold, flat_map}
 use Rattle.bern_base.specs.Expressions.{by_levels}
@@ -13,7 +13,7 @@ use Rattle.bern_base.specs.declared.limits.TheConstants.{EXPRESSION_LEVELS}
 use Rattle.job_model.specs.Accepted.{IsReadOf}
 use Rattle.job_model.specs.Runnable.{IsFactor, IsProduct, IsExpr}
 use Rattle.term_model.specs.declared.term.Term.{Term}
-use Rattle.term_model.specs.Terms.{number_term, read_term, times, choices, sign_of, factor_terms, product_terms, terms_by, terms_of, references_of, is_dense_in}
+use Rattle.term_model.specs.Terms.{number_term, read_term, times, choices, sign_of, factor_terms, product_terms, terms_by, references_of, is_dense_in}
 use Rattle.loop_query.specs.TermLaws.{IsToldApart, TermsAreToldApart, TermsReadTheBody}
 
 pub All_flat_map : {X Y : Type 0} (P : Y → Type 0) (f : X → List Y) (xs : List X) → ((k : ℕ) (d : X) → k < length xs → All P (f (get_or xs k d))) → All P (flat_map f xs)
@@ -41,7 +41,7 @@ module _ (dense : Ref → Bool) (P : Ref → Type 0) (Q : Term → Type 0) (numb
     products_all : (ps : List Product) → All (IsProduct P Inner) ps → All Q (flat_map (product_terms dense inner) ps)
     products_all ps is = All_flat_map Q (product_terms dense inner) ps
         (λ k d below. let sign = number_term (sign_of (get_or ps k d).minus) in
-         chosen_all (get_or ps k d).factors (sign ∷ []) (is k d below) (All-cons Q sign [] (number (sign_of (get_or ps k d).minus)) (All-nil Q)))
+        chosen_all (get_or ps k d).factors (sign ∷ []) (is k d below) (All-cons Q sign [] (number (sign_of (get_or ps k d).minus)) (All-nil Q)))
 
   -- `Deep` is what an expression of so many levels has to be
   terms_all : (Deep : ℕ → Expr → Type 0) → ((n : ℕ) (e : Expr) → Deep (suc n) e → All (IsProduct P (Deep n)) (out-Expr e).sums) → (n : ℕ) (e : Expr) → Deep n e → All Q (terms_by dense n e)
@@ -83,8 +83,8 @@ pub terms_read : (dense : Ref → Bool) (P : Ref → Type 0) (n : ℕ) (e : Expr
 unfolding IsExpr
 terms_read dense P n e is =
     let each = terms_all dense P (Reads P) (λ n. record { dense = All-nil P; sparse = All-nil P }) (λ r is. read_reads P r (dense r) is)
-        (λ a b first second. record { dense = All-append P a.dense b.dense first.dense second.dense; sparse = All-append P a.sparse b.sparse first.sparse second.sparse })
-        (IsExpr P) (λ n e is. is) n e is in
+    (λ a b first second. record { dense = All-append P a.dense b.dense first.dense second.dense; sparse = All-append P a.sparse b.sparse first.sparse second.sparse })
+    (IsExpr P) (λ n e is. is) n e is in
     λ k d below. let t = get_or (terms_by dense n e) k d in All-append P t.dense t.sparse (each k d below).dense (each k d below).sparse
 
 pub terms_read_the_body : TermsReadTheBody

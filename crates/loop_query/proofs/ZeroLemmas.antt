@@ -1,15 +1,14 @@
 -- Sparse arrays keep their zeros, and files begin with them.
-use Rattle.std.proofs.Common.{◌≡◌, ◌≢◌, ◌∙◌, ℕ, zero, suc, ◌+◌, ◌*◌, ◌/◌, ◌%◌, ◌^◌, ◌<◌, ◌≤◌, ◌==◌, Bool, true, false, not, ◌&&◌, cond, List, [], ◌∷◌, ◌++◌, Option, Some, None, map, length, take, get_or, set, replicate, ℤ, refl, sym, ap, subst, ⊎_elim, arith}
-use Rattle.std.specs.Prelude.{slice_get, slice_index_or, if◌then◌else◌}
-use Rattle.std.proofs.lemmas.List.{get_or-set_other, get_or-replicate, get_or_past, length-replicate, length-map}
+use Rattle.std.proofs.Common.{◌≡◌, ◌≢◌, ◌∙◌, ℕ, zero, suc, ◌*◌, ◌/◌, ◌%◌, ◌^◌, ◌==◌, Bool, true, false, not, ◌&&◌, List, [], ◌∷◌, Option, Some, None, map, take, get_or, ℤ, refl, sym, ap, subst, ⊎_elim, arith}
+use Rattle.std.specs.Prelude.{slice_get, if◌then◌else◌}
+use Rattle.std.proofs.lemmas.List.{get_or-set_other, get_or-replicate, get_or_past, length-replicate}
 use Rattle.std.proofs.lemmas.List.FromFn.{get_or-map-range_with_len, length-map-range_with_len}
 use Rattle.std.proofs.Math.Nat.{zero-add}
 use Rattle.std.proofs.lemmas.Bool.{cases_lt, eq-eqb, eqb-true}
 use Rattle.std.proofs.lemmas.List.Folds.{list_any_at}
 use Rattle.std.proofs.lemmas.Nat.{div-mul-add, mod-mul-add}
-use Rattle.std.proofs.lemmas.Option.{slice_get-map}
-use Rattle.std.specs.List.{All, fold, list_any, range_with_len, sum_by}
-use Rattle.bern_base.specs.Matrix.{IsInside, element, matrix_values, number}
+use Rattle.std.specs.List.{All, fold, range_with_len}
+use Rattle.bern_base.specs.Matrix.{IsInside, element, number}
 use Rattle.bern_base.specs.declared.job.ArrayDecl.{ArrayDecl}
 use Rattle.bern_base.specs.declared.job.Checked.{Checked}
 use Rattle.bern_base.specs.declared.job.FormatDecl.{FormatDecl}
@@ -19,15 +18,13 @@ use Rattle.bern_base.specs.declared.shape.Shape.{Shape}
 use Rattle.bern_base.specs.declared.shape.Shape.TheVariants as shape
 use Rattle.bern_base.proofs.SumLemmas.{sum_by_none}
 use Rattle.job_model.specs.Accepted.{IsAccepted, IsNestOf}
-use Rattle.job_model.specs.Elements.{element_of}
-use Rattle.job_model.specs.Nests.{changed, with_changed, at_point, after_nest, after_found, after_turn, state_before, first_values, first_state}
+use Rattle.job_model.specs.Nests.{at_point, after_nest, after_found, after_turn, state_before, first_values, first_state}
 use Rattle.job_model.specs.Points.{points, spans_of}
-use Rattle.job_model.specs.Runnable.{IsTarget, is_dense}
-use Rattle.job_model.specs.State.{State, read, write, values_in, zeros}
-use Rattle.job_model.specs.Values.{value_in}
+use Rattle.job_model.specs.Runnable.{IsTarget}
+use Rattle.job_model.specs.State.{State, read, zeros}
 use Rattle.format_model.specs.Checks.{is_astray}
 use Rattle.format_model.specs.Stored.{is_stored, stands_at, has_entry_at, is_on_diagonal}
-use Rattle.term_model.specs.Activity.{Entries, HoldsZeros, SparseHoldZeros, stored, stores, stores_in, entries_of, file_entries, first_entries}
+use Rattle.term_model.specs.Activity.{Entries, SparseHoldZeros, stores, stores_in, entries_of, file_entries, first_entries}
 use Rattle.term_model.specs.Terms.{is_whole}
 use Rattle.loop_query.specs.ActivityLaws.{ZerosStay, ActiveTermsSumInTurns, FitsFile, FilesBeginWithZeros}
 use Rattle.loop_query.proofs.ActivityLemmas.{active_terms_sum}
@@ -41,9 +38,9 @@ write_keeps : (job : Checked) (entries : Entries) (nest : Nest) → IsTarget job
     SparseHoldZeros job entries state → SparseHoldZeros job entries (at_point job.arrays nest state point)
 write_keeps job entries nest target state point zeros array sparse n unstored =
     let apart : array ≢ nest.target.array = λ same.
-        let whole : is_whole job.formats (slice_get job.arrays array) ≡ true =
-            ap (λ a. is_whole job.formats (slice_get job.arrays a)) same ∙ ap (is_whole job.formats) target.element.named ∙ target.whole in
-        absurd cc in
+    let whole : is_whole job.formats (slice_get job.arrays array) ≡ true =
+    ap (λ a. is_whole job.formats (slice_get job.arrays a)) same ∙ ap (is_whole job.formats) target.element.named ∙ target.whole in
+    absurd cc in
     ap (λ values. get_or values n 0) (get_or-set_other state nest.target.array array _ [] apart) ∙ zeros array sparse n unstored
 
 nest_keeps : (job : Checked) (entries : Entries) (nest : Nest) → IsNestOf job nest → (state : State) → SparseHoldZeros job entries state → SparseHoldZeros job entries (after_nest job.arrays state nest)
@@ -86,7 +83,7 @@ element_zero cols entries n none =
 no_entry : (rows cols : ℕ) (entries : List Entry) (n : ℕ) → All (IsInside rows cols) entries → has_entry_at entries (n / cols) (n % cols) ≡ false → All (λ e. number cols e ≡ n → e.value ≡ 0) entries
 no_entry rows cols entries n inside unstored = λ k d below same.
     let here : stands_at (n / cols) (n % cols) (get_or entries k d) ≡ true =
-        subst (λ m. stands_at (m / cols) (m % cols) (get_or entries k d) ≡ true) same (stands rows cols (get_or entries k d) (inside k d below)) in
+    subst (λ m. stands_at (m / cols) (m % cols) (get_or entries k d) ≡ true) same (stands rows cols (get_or entries k d) (inside k d below)) in
     let some : has_entry_at entries (n / cols) (n % cols) ≡ true = list_any_at (stands_at (n / cols) (n % cols)) entries k d below here in
     absurd cc
 
@@ -153,13 +150,15 @@ files_begin_with_zeros job files fits number sparse n unstored = by_array (slice
   where
     entries : ArrayDecl → List Entry
     entries array = file_entries files array.file
+
     values : ArrayDecl → List ℕ
     values array = first_values files array array.file
+
     by_array : (found : Option ArrayDecl) → slice_get job.arrays number ≡ found → read (first_state files job.arrays) number n ≡ 0
     by_array None is = ap (λ l. get_or l n 0) (mapped_past values job.arrays number [] is)
     by_array (Some array) is =
         let unstored_here : stores (entries array) array (slice_get job.formats array.format) n ≡ false =
-            ap (λ es. stores es array (slice_get job.formats array.format) n) (sym (mapped_at entries job.arrays number array [] is))
-            ∙ ap (λ a. stores_in job (entries_of (first_entries files job.arrays) number) a n) (sym is) ∙ unstored in
+        ap (λ es. stores es array (slice_get job.formats array.format) n) (sym (mapped_at entries job.arrays number array [] is))
+        ∙ ap (λ a. stores_in job (entries_of (first_entries files job.arrays) number) a n) (sym is) ∙ unstored in
         ap (λ l. get_or l n 0) (mapped_at values job.arrays number array [] is)
         ∙ array_zero job files array n (all_at (FitsFile job files) job.arrays number array fits is) unstored_here

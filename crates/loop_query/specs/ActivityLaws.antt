@@ -1,11 +1,10 @@
 -- Terms count only where they are active, in all states that a job comes to.
-use Rattle.std.specs.Prelude.{◌≡◌, ℕ, ◌%◌, ◌^◌, List, ℤ, Option, Some, false, map}
+use Rattle.std.specs.Prelude.{◌≡◌, ℕ, ◌%◌, ◌^◌, List, ℤ, false}
 use Rattle.std.specs.List.{All, filter, sum_by}
 use Rattle.bern_base.specs.Matrix.{IsInside}
 use Rattle.bern_base.specs.declared.job.ArrayDecl.{ArrayDecl}
 use Rattle.bern_base.specs.declared.job.Checked.{Checked}
 use Rattle.bern_base.specs.declared.job.Expr.{Expr}
-use Rattle.bern_base.specs.declared.job.FormatDecl.{FormatDecl}
 use Rattle.bern_base.specs.declared.matrix.Entry.{Entry}
 use Rattle.format_model.specs.Checks.{is_astray}
 use Rattle.job_model.specs.Accepted.{Has, IsAccepted}

@@ -1,10 +1,9 @@
 -- What is true of the terms of every expression, whatever the arrays hold.
 use Rattle.std.specs.Prelude.{◌≡◌, ℕ, ◌%◌, ◌^◌, ◌≤◌, List, ℤ, true, false, length, map}
-use Rattle.std.specs.List.{All, filter, sum_by}
+use Rattle.std.specs.List.{All, sum_by}
 use Rattle.bern_base.specs.declared.job.Checked.{Checked}
 use Rattle.bern_base.specs.declared.job.Expr.{Expr}
 use Rattle.bern_base.specs.declared.job.Nest.{Nest}
-use Rattle.bern_base.specs.declared.job.Ref.{Ref}
 use Rattle.bern_base.specs.declared.limits.TheConstants.{EXPRESSION_LEVELS, MOST_REFERENCES, MOST_TERMS}
 use Rattle.job_model.specs.Accepted.{IsNestOf, IsReadOf}
 use Rattle.job_model.specs.References.{sizes_of}

@@ -10,8 +10,11 @@ mod products;
 mod references;
 mod subscripts;
 
-pub use laws::{active_terms_sum, active_terms_sum_in_turns, answers_are_active_points, formats_tell_plans, plans_are_ready_steps, terms_are_few, terms_read_the_body, terms_sum};
-pub use term_model::{Plan, PlanStep, PlannedTerm, Plans, Term};
+pub use laws::{
+    active_terms_sum, active_terms_sum_in_turns, answers_are_active_points, formats_tell_plans,
+    plans_are_ready_steps, terms_are_few, terms_read_the_body, terms_sum,
+};
 pub use nest::terms;
 pub use references::reference_at;
 pub use subscripts::{has_factor, subscript};
+pub use term_model::{Plan, PlanStep, PlannedTerm, Plans, Term};

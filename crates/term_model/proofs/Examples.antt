@@ -1,16 +1,15 @@
 -- Worked terms, points at which they are active, and lists of plans, computed from the definitions.
-use Rattle.std.proofs.Common.{◌≡◌, ◌∙◌, ℕ, suc, ◌-◌, ◌^◌, Bool, true, false, List, [], ◌∷◌, Option, Some, None, ◌++◌, ◌==◌, map, ℤ, pos, negsuc, codes, refl, ap}
+use Rattle.std.proofs.Common.{◌≡◌, ◌∙◌, ℕ, suc, ◌-◌, ◌^◌, Bool, true, false, List, [], ◌∷◌, None, ◌++◌, ◌==◌, map, ℤ, pos, codes, refl, ap}
 use Rattle.std.specs.Prelude.{nat_lt, if◌then◌else◌}
-use Rattle.std.specs.List.{fold, flat_map}
+use Rattle.std.specs.List.{flat_map}
 use Rattle.bern_base.specs.Affine.{AffineForm}
 use Rattle.bern_base.specs.Expressions.{by_levels}
 use Rattle.bern_base.specs.declared.axes.Axis.TheVariants as axis
 use Rattle.bern_base.specs.declared.job.ArrayDecl.{ArrayDecl}
 use Rattle.bern_base.specs.declared.job.Checked.{Checked}
-use Rattle.bern_base.specs.declared.job.Expr.{Expr, roll-Expr, out-Expr, out-roll-Expr}
+use Rattle.bern_base.specs.declared.job.Expr.{Expr, roll-Expr, out-roll-Expr}
 use Rattle.bern_base.specs.declared.job.Factor.{Factor}
 use Rattle.bern_base.specs.declared.job.Factor.TheVariants.{Num, Read, Group}
-use Rattle.bern_base.specs.declared.job.FormatDecl.{FormatDecl}
 use Rattle.bern_base.specs.declared.job.Product.{Product, roll-Product}
 use Rattle.bern_base.specs.declared.job.Ref.{Ref}
 use Rattle.bern_base.specs.declared.job.Nest.{Nest}
@@ -20,12 +19,10 @@ use Rattle.placement.specs.Placement.{Triple, owner_of}
 use Rattle.bern_base.specs.declared.matrix.Entry.{Entry}
 use Rattle.bern_base.specs.declared.shape.Shape.{Shape}
 use Rattle.bern_base.specs.declared.shape.Shape.TheVariants as shape
-use Rattle.term_model.specs.declared.plan.PlanStep.{PlanStep}
 use Rattle.term_model.specs.declared.plan.PlanStep.TheVariants.{Range, Drive, DriveFlat, Merge}
-use Rattle.term_model.specs.declared.term.Term.{Term}
 use Rattle.term_model.specs.Activity.{is_active}
 use Rattle.term_model.specs.Answers.{answer}
-use Rattle.term_model.specs.Plans.{Query, SparseRef, JoinLevel, plans, due_searches}
+use Rattle.term_model.specs.Plans.{Query, SparseRef, plans, due_searches}
 use Rattle.term_model.specs.Queries.{level_of, plan_of, plans_of}
 use Rattle.term_model.specs.Terms.{number_term, times, terms_by, product_terms, term_value, is_dense_in}
 use Rattle.format_model.specs.Levels.{levels_of}
@@ -42,7 +39,6 @@ j = form (pos 0) (pos 0) (pos 1)
 
 none : AffineForm
 none = form (pos 0) (pos 0) (pos 0)
-
 
 sparse : Shape → AffineForm → AffineForm → SparseRef
 sparse s row col = record { row = row; col = col; levels = map level_of (levels_of s) }
@@ -158,7 +154,7 @@ both_terms =
     terms_of_body is_vector 16 both
     ∙ ap (λ ts. flat_map (λ a. map (times a) (terms_by is_vector 16 (body right))) (flat_map (λ a. map (times a) ts) (number_term (2 ^ 64 - 1) ∷ [])) ++ []) (terms_of_body is_vector 15 left)
     ∙ ap (λ us. flat_map (λ a. map (times a) us)
-     (flat_map (λ a. map (times a) (flat_map (product_terms is_vector (terms_by is_vector 15)) left)) (number_term (2 ^ 64 - 1) ∷ [])) ++ []) (terms_of_body is_vector 15 right)
+    (flat_map (λ a. map (times a) (flat_map (product_terms is_vector (terms_by is_vector 15)) left)) (number_term (2 ^ 64 - 1) ∷ [])) ++ []) (terms_of_body is_vector 15 right)
 
 -- a number alone
 number_alone : terms_by is_vector 17 (body (minus (Num 7 ∷ []) ∷ [])) ≡ record { factor = 2 ^ 64 - 7; dense = []; sparse = [] } ∷ []

@@ -9,7 +9,6 @@ use Rattle.bern_base.specs.declared.job.Expr.{Expr, out-Expr}
 use Rattle.bern_base.specs.declared.job.Factor.{Factor}
 use Rattle.bern_base.specs.declared.job.Factor.TheVariants as factor
 use Rattle.bern_base.specs.declared.job.FormatDecl.{FormatDecl}
-use Rattle.bern_base.specs.declared.job.Nest.{Nest}
 use Rattle.bern_base.specs.declared.job.Product.{Product}
 use Rattle.bern_base.specs.declared.job.Ref.{Ref}
 use Rattle.bern_base.specs.declared.limits.TheConstants.{EXPRESSION_LEVELS}

@@ -11,7 +11,9 @@ pub struct Plan {
 #[derive(Clone, Copy, Debug, PartialEq, Eq)]
 pub enum PlanStep {
     /// All values of a variable's loop.
-    Range { var: u32 },
+    Range {
+        var: u32,
+    },
     /// The indices of a level of a reference, each solved for a variable.
     Drive {
         reference: u32,
@@ -19,7 +21,9 @@ pub enum PlanStep {
         var: u32,
     },
     /// The elements of a level that has row and column in one; they bind all variables of its two subscripts.
-    DriveFlat { reference: u32 },
+    DriveFlat {
+        reference: u32,
+    },
     /// The indices that a level of each of two references has, each the value of a variable but for a constant.
     Merge {
         left: u32,

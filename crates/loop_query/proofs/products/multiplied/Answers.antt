@@ -1,4 +1,4 @@
-use Rattle.std.proofs.Common.{◌≡◌, ◌∙◌, ap, sym}
+use Rattle.std.proofs.Common.{◌∙◌, ap, sym}
 use Rattle.term_model.specs.Terms.{choices}
 use Rattle.loop_query.proofs.ProductLemmas.{choices_number}
 use Rattle.loop_query.proofs.products.multiplied.Goals as goal

@@ -1,4 +1,4 @@
-use Rattle.std.proofs.Common.{◌≡◌, ◌∙◌, ap}
+use Rattle.std.proofs.Common.{◌∙◌, ap}
 use Rattle.loop_query.proofs.ProductLemmas.{scaled_is}
 use Rattle.loop_query.proofs.products.scale.Goals as goal
 

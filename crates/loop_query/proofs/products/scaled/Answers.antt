@@ -1,4 +1,4 @@
-use Rattle.std.proofs.Common.{◌≡◌, ◌∙◌, ap, sym, arith, [], ◌∷◌}
+use Rattle.std.proofs.Common.{◌∙◌, ap, sym, arith, [], ◌∷◌}
 use Rattle.std.proofs.lemmas.List.{with_items_is}
 use Rattle.term_model.specs.Terms.{choices, times, number_term}
 use Rattle.loop_query.proofs.ProductLemmas.{changed_more, all_multiplied}

@@ -1,4 +1,4 @@
-use Rattle.std.proofs.Common.{◌≡◌, ◌∙◌, ap, sym, get_or, arith, [], ◌∷◌}
+use Rattle.std.proofs.Common.{◌∙◌, ap, sym, get_or, arith, [], ◌∷◌}
 use Rattle.std.proofs.lemmas.List.{with_items_is}
 use Rattle.term_model.specs.Terms.{choices, times, read_term}
 use Rattle.loop_query.proofs.ProductLemmas.{changed_more, all_multiplied}
