@@ -22,7 +22,7 @@ use Rattle.bern_base.specs.declared.shape.Shape.TheVariants as shape
 use Rattle.term_model.specs.declared.plan.PlanStep.TheVariants.{Range, Drive, DriveFlat, Merge}
 use Rattle.term_model.specs.Activity.{is_active}
 use Rattle.term_model.specs.Answers.{answer}
-use Rattle.term_model.specs.Plans.{Query, SparseRef, plans, due_searches}
+use Rattle.term_model.specs.Plans.{Query, SparseRef, plans, due_searches, four}
 use Rattle.term_model.specs.Queries.{level_of, plan_of, plans_of}
 use Rattle.term_model.specs.Terms.{number_term, times, terms_by, product_terms, term_value, is_dense_in}
 use Rattle.format_model.specs.Levels.{levels_of}
@@ -225,3 +225,9 @@ answers = refl
 plans_in_job : plans_of job nest (record { factor = 1; dense = []; sparse = a_ij ∷ u_j ∷ [] }) ≡ map plan_of (plans (query 2 (sparse (shape.DensePacked axis.Row) i j ∷ sparse shape.PackedOne j none ∷ [])))
 unfolding job array nest span query sparse a_ij u_j i j none form
 plans_in_job = refl
+
+-- A[i,i] where i is bound: both levels are searched at once, the outer one first, and none is due after them
+both_levels : due_searches (query 1 (sparse (shape.DensePacked axis.Row) i i ∷ [])) (record { bound = four; located = λ r. 0 }) ≡
+    record { reference = 0; level = 0 } ∷ record { reference = 0; level = 1 } ∷ []
+unfolding query sparse i form due_searches
+both_levels = refl
