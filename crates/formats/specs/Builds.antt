@@ -1,13 +1,14 @@
 -- Which formats can be built, and what is built of a part.
 use Rattle.std.specs.Prelude.{◌≡◌, ℕ, ◌*◌, ◌^◌, ◌<◌, ◌≤◌, Bool, true, false, List, Option, Some, None, length}
 use Rattle.bern_base.specs.Matrix.{IsMatrix}
+use Rattle.bern_base.specs.declared.axes.Axis.{Axis}
 use Rattle.bern_base.specs.declared.axes.Axis.TheVariants as axis
 use Rattle.bern_base.specs.declared.matrix.Matrix.{Matrix}
 use Rattle.bern_base.specs.declared.shape.Shape.{Shape}
 use Rattle.bern_base.specs.declared.shape.Shape.TheVariants as shape
 use Rattle.format_model.specs.declared.limits.TheConstants.{MOST_INDEX}
 use Rattle.format_model.specs.Grids.{Grid}
-use Rattle.format_model.specs.Laws.{Suits}
+use Rattle.format_model.specs.Laws.{IsSide, Suits}
 use Rattle.format_model.specs.Stored.{stored_elements}
 use Rattle.stores_flat.specs.Dense.{grid_of}
 
@@ -31,3 +32,25 @@ abbrev pub part_grid : Shape → Matrix → Option Grid
 part_grid shape.DenseOne m = Some (grid_of true axis.Row m)
 part_grid (shape.DenseDense outer) m = Some (grid_of false outer m)
 part_grid other m = None
+
+-- what a store of dense levels needs of a part
+pub record CanDense (outer : Axis) (single : Bool) (m : Matrix) : Type 0 where
+  pub matrix : IsMatrix m
+  pub few : m.rows * m.cols < 2 ^ 32
+  pub outer_side : IsSide outer
+  pub single_axis : single ≡ true → outer ≡ axis.Row
+  pub single_cols : single ≡ true → m.cols ≡ 1
+
+-- what a list needs
+pub record CanList (flat : Bool) (m : Matrix) : Type 0 where
+  pub matrix : IsMatrix m
+  pub few : length m.entries < 2 ^ 32
+  pub small : m.rows * m.cols ≤ MOST_INDEX
+  pub single : flat ≡ false → m.cols ≡ 1
+
+-- what a store of packed levels needs
+pub record CanPack (outer : Axis) (single : Bool) (m : Matrix) : Type 0 where
+  pub matrix : IsMatrix m
+  pub few : length m.entries < 2 ^ 32
+  pub outer_side : IsSide outer
+  pub column : single ≡ true → m.cols ≡ 1

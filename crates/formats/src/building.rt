@@ -1,6 +1,9 @@
-ghost use Rattle.std.specs.Prelude.{◌≡◌, IfOk};
+ghost use Rattle.std.specs.Prelude.{◌≡◌, ℕ, List, Some, None, IfOk};
 ghost use Rattle.format_model.specs.Trees.{Describes};
-ghost use Rattle.formats.specs.Builds.{CanBuild, part_grid};
+ghost use Rattle.formats.specs.Builds.{CanBuild, CanDense, CanList, CanPack, part_grid};
+ghost use Rattle.stores_flat.specs.Dense.{dense_shape, grid_of};
+ghost use Rattle.stores_flat.specs.Lists.{flat_shape};
+ghost use Rattle.stores_packed.specs.Packed.{packed_shape};
 
 use crate::any_store::AnyStore;
 use access_joins::{Access, Cells};
@@ -37,5 +40,47 @@ pub fn build(
         Shape::DensePacked(outer) => packed(alloc, matrix, *outer, true, false),
         Shape::PackedPacked(outer) => packed(alloc, matrix, *outer, false, false),
         Shape::Jagged | Shape::Diagonal(_) | Shape::Permute(_) => unreachable!(),
+    }
+}
+
+fn dense(alloc: Global, part: &Matrix, outer: Axis, single: bool) -> Result<AnyStore, NoMemory>
+    requires can { CanDense outer single part.now }
+    ensures describes { IfOk result (λ s. (globals order : List ℕ) →
+        Describes (⟦<AnyStore as Access>⟧.tree s) (dense_shape single outer) globals order part.now) }
+    ensures grid { IfOk result (λ s. ⟦<AnyStore as Cells>⟧.grid s ≡ Some (grid_of single outer part.now)) }
+{
+    match DenseStore::build(alloc, part, outer, single) {
+        Ok(store) => Ok(AnyStore::Dense(store)),
+        Err(NoMemory) => Err(NoMemory),
+    }
+}
+
+fn list(alloc: Global, part: &Matrix, flat: bool) -> Result<AnyStore, NoMemory>
+    requires can { CanList flat part.now }
+    ensures describes { IfOk result (λ s. (globals order : List ℕ) →
+        Describes (⟦<AnyStore as Access>⟧.tree s) (flat_shape flat) globals order part.now) }
+    ensures grid { IfOk result (λ s. ⟦<AnyStore as Cells>⟧.grid s ≡ None) }
+{
+    match ListStore::build(alloc, part, flat) {
+        Ok(store) => Ok(AnyStore::List(store)),
+        Err(NoMemory) => Err(NoMemory),
+    }
+}
+
+fn packed(
+    alloc: Global,
+    part: &Matrix,
+    outer: Axis,
+    outer_dense: bool,
+    single: bool,
+) -> Result<AnyStore, NoMemory>
+    requires can { CanPack outer single part.now }
+    ensures describes { IfOk result (λ s. (globals order : List ℕ) →
+        Describes (⟦<AnyStore as Access>⟧.tree s) (packed_shape outer outer_dense single) globals order part.now) }
+    ensures grid { IfOk result (λ s. ⟦<AnyStore as Cells>⟧.grid s ≡ None) }
+{
+    match PackedStore::build(alloc, part, outer, outer_dense, single) {
+        Ok(store) => Ok(AnyStore::Packed(store)),
+        Err(NoMemory) => Err(NoMemory),
     }
 }

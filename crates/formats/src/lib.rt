@@ -5,11 +5,13 @@
 #![tactic(auto)]
 
 mod any_store;
+mod building;
 mod checks;
 mod digits;
 mod filled;
 mod statistics;
 
 pub use any_store::AnyStore;
+pub use building::build;
 pub use checks::{check_shape, check_sizes};
 pub use statistics::stats;
