@@ -1,0 +1,7 @@
+//! Tests of stores, in a crate of their own: a crate that holds tests is proved once more with them.
+#![tactic(auto)]
+
+#[cfg(test)]
+mod reading;
+#[cfg(test)]
+mod stored;
