@@ -15,6 +15,7 @@ packed_shape outer outer_dense true = shape.PackedOne
 packed_shape outer true false = shape.DensePacked outer
 packed_shape outer false false = shape.PackedPacked outer
 
+-- the format of the levels
 abbrev pub shape_of : Form → Shape
 shape_of form.PackedOne = shape.PackedOne
 shape_of (form.DensePacked outer lines) = shape.DensePacked outer
@@ -32,7 +33,7 @@ outer_index form.PackedOne outers k = slice_index outers k
 outer_index (form.DensePacked outer lines) outers k = k
 outer_index (form.PackedPacked outer) outers k = slice_index outers k
 
--- so many starts of lines are kept at least: each line ends where the next one begins
+-- so many starts are kept at least: one for each line, and the end of the last one
 abbrev pub starts_of : Form → List ℕ → ℕ
 starts_of form.PackedOne outers = 0
 starts_of (form.DensePacked outer lines) outers = lines + 1
@@ -54,23 +55,28 @@ root_weight (form.PackedPacked outer) outers = bits (length outers)
 abbrev pub placed : (ℕ → ℕ) → ℕ → ℕ → List (ℕ × ℕ)
 placed index from count = made index (λ k. k) from count
 
+-- the children of the root
 abbrev pub level_0 : Form → List ℕ → List (ℕ × ℕ)
 level_0 f outers = placed (outer_index f outers) 0 (width_of f outers)
 
+-- the nodes of level 0 are the parents of level 1, and the places of the entries are the leaves of two levels
 abbrev pub packed_nodes : Form → List ℕ → List ℕ → ℕ → ℕ
 packed_nodes f outers indices zero = 1
 packed_nodes f outers indices (suc zero) = width_of f outers
 packed_nodes f outers indices (suc level) = length indices
 
+-- the children of level 1 stand one line after another
 abbrev pub packed_start : List ℕ → ℕ → ℕ → ℕ
 packed_start starts zero parent = 0
 packed_start starts (suc level) parent = slice_index starts parent
 
+-- below the node of a line stand its entries
 abbrev pub packed_children : Form → List ℕ → List ℕ → List ℕ → ℕ → ℕ → List (ℕ × ℕ)
 packed_children f outers starts indices zero parent = level_0 f outers
 packed_children f outers starts indices (suc level) parent =
     placed (slice_index indices) (slice_index starts parent) (slice_index starts (parent + 1) - slice_index starts parent)
 
+-- the tree of a store with these arrays
 abbrev pub packed_tree : Form → List ℕ → List ℕ → List ℕ → List ℕ → Tree
 packed_tree f outers starts indices values = record {
   levels = levels_of (shape_of f);
@@ -80,6 +86,7 @@ packed_tree f outers starts indices values = record {
   value = slice_index values;
 }
 
+-- the numbers at these places rise from each to all later ones
 abbrev pub RisesBetween : (ℕ → ℕ) → ℕ → ℕ → Type 0
 RisesBetween f from to = (i j : ℕ) → from ≤ i → i < j → j < to → f i < f j
 

@@ -21,19 +21,21 @@ pub fn search<L: Ledger>(
     ensures cost { steps.new ≤ steps.old + bits (line.to - line.from) }
 {
     let mut low = line.from;
-    let mut high = line.to;
-    'halving: while low < high {
+    let mut count = line.to - line.from;
+    'halving: while count > 0 {
         steps.tick();
-        let middle = low + (high - low) / 2;
+        let half = count / 2;
+        let middle = low + half;
         let here = indices[middle as usize] as u64;
         if here == index {
             return Some(middle);
         }
+        // The new count does not depend on which part is left, so that this needs no branch. Of an even count the place just
+        // probed may stay.
         if here < index {
-            low = middle + 1;
-        } else {
-            high = middle;
+            low += count - half;
         }
+        count = half;
     }
     None
 }
