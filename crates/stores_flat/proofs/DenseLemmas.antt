@@ -8,11 +8,12 @@ use Rattle.std.proofs.lemmas.List.FromFn.{length-map-range_with_len}
 use Rattle.std.proofs.lemmas.Option.{slice_get-get_or, slice_get_within}
 use Rattle.std.proofs.lemmas.Nat.{div-add-mod', mul-add-lt, row_fits, rows, same_from_place}
 use Rattle.format_model.specs.Made.{length-made, made_at, made_found, made_none}
+use Rattle.format_model.specs.Grids.{Grid, with_element}
 use Rattle.format_model.specs.Levels.{levels_of}
 use Rattle.format_model.specs.Trees.{child_at}
 use Rattle.stores_flat.specs.declared.layout.Layout.{Layout}
 use Rattle.stores_flat.specs.declared.layout.Layout.TheVariants as layout
-use Rattle.stores_flat.specs.Dense.{cols_of, dense_children, dense_nodes, dense_shape, elements_of, is_single, level_extent, outer_of, place_of, rows_of}
+use Rattle.stores_flat.specs.Dense.{cols_of, dense_children, dense_grid, dense_nodes, dense_shape, elements_of, grid_with, is_single, level_extent, outer_of, place_of, rows_of}
 use Rattle.stores_flat.specs.DenseLaws.{element_is}
 
 pub length-dense_children : (extent parent : ℕ) → length (dense_children extent parent) ≡ extent
@@ -65,11 +66,14 @@ column_major : (lines width e : ℕ) → e < lines * width → (e % lines < line
 column_major zero width e below = absurd (omega arith)
 column_major (suc more) width e below = (omega arith, grind (arith, rows))
 
+pub place_in_columns : (lines width e : ℕ) → e < lines * width → e % lines * width + e / lines < lines * width
+place_in_columns lines width e below =
+    let inside = column_major lines width e below in omega (arith, mul-add-lt (e % lines) width (e / lines) lines inside.0 inside.1)
+
 pub place_within : (l : Layout) (lines width e : ℕ) → e < lines * width → place_of l lines width e < lines * width
 place_within layout.Single lines width e below = below
 place_within layout.RowMajor lines width e below = below
-place_within layout.ColMajor lines width e below =
-    let inside = column_major lines width e below in omega (arith, mul-add-lt (e % lines) width (e / lines) lines inside.0 inside.1)
+place_within layout.ColMajor lines width e below = place_in_columns lines width e below
 
 -- two elements lie at two places
 pub place_apart : (l : Layout) (lines width e k : ℕ) → e < lines * width → k < lines * width → e ≢ k → place_of l lines width e ≢ place_of l lines width k
@@ -98,6 +102,13 @@ elements_set l lines width values e v full below =
     (λ (other : k ≢ e). get_or-set_other values (place_of l lines width e) (place_of l lines width k) v 0 (place_apart l lines width k e under below other)
     ∙ sym (get_or-set_other (elements_of l lines width values) e k v 0 other ∙ element_is l lines width values k inside))
     (cases_eq k e))
+
+pub dense_set : (l : Layout) (lines width : ℕ) (values new : List ℕ) (e p v : ℕ) → length values ≡ lines * width → e < length (elements_of l lines width values) → p ≡ place_of l lines width e → new ≡ slice_set values p v →
+    Some (dense_grid l lines width new) ≡ with_element (Some (dense_grid l lines width values)) e v
+dense_set l lines width values new e p v full below place is =
+    let grid : List ℕ → Grid = grid_with (is_single l) (outer_of l) (rows_of l lines width) (cols_of l lines width) in
+    ap (λ vs. Some (grid vs)) (ap (elements_of l lines width) (is ∙ ap (λ k. slice_set values k v) place)
+    ∙ elements_set l lines width values e v full (subst (λ n. e < n) (length-elements_of l lines width values) below))
 
 -- zeros have zeros for their elements
 pub elements_zero : (l : Layout) (lines width : ℕ) → elements_of l lines width (replicate (lines * width) 0) ≡ replicate (rows_of l lines width * cols_of l lines width) 0
