@@ -1,5 +1,5 @@
 -- The axes of a matrix: what the index of an entry is on each, and how many indices there are.
-use Rattle.std.specs.Prelude.{ℕ, ◌*◌, Bool, true, false, List}
+use Rattle.std.specs.Prelude.{ℕ, ◌*◌, Bool, true, false}
 use Rattle.bern_base.specs.Matrix.{element, number}
 use Rattle.bern_base.specs.declared.axes.Axis.{Axis}
 use Rattle.bern_base.specs.declared.axes.Axis.TheVariants as axis

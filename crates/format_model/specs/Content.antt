@@ -1,7 +1,6 @@
 -- What each format lists, and in which order: its indices level by level, with the values at the leaves.
-use Rattle.std.specs.Prelude.{ℕ, ◌+◌, ◌-◌, ◌*◌, ◌==◌, nat_lt, Bool, false, not, List, [], ◌∷◌, length, map, slice_index, position, ℤ, pos, negsuc, ◌+ℤ◌}
+use Rattle.std.specs.Prelude.{Bool, ℕ, ◌+◌, ◌-◌, ◌==◌, nat_lt, List, [], ◌∷◌, length, map, slice_index, position, ℤ, pos, negsuc, ◌+ℤ◌}
 use Rattle.std.specs.List.{filter, filter_map, flat_map, list_any, range_with_len}
-use Rattle.bern_base.specs.Matrix.{number}
 use Rattle.bern_base.specs.declared.axes.Axis.{Axis}
 use Rattle.bern_base.specs.declared.axes.Axis.TheVariants as axis
 use Rattle.bern_base.specs.declared.matrix.Entry.{Entry}
@@ -31,9 +30,13 @@ lines_of a m lines = map (λ l. (l, map (leaf_on (across a) m.cols) (in_line a m
 abbrev pub all_lines : Axis → Matrix → List ℕ
 all_lines a m = range_with_len 0 (extent_of a m.rows m.cols)
 
+-- a line has an entry
+abbrev pub is_filled : Axis → ℕ → List Entry → ℕ → Bool
+is_filled a cols entries line = list_any (λ e. index_of a cols e == line) entries
+
 -- those that have an entry
 abbrev pub filled_lines : Axis → Matrix → List ℕ
-filled_lines a m = filter (λ l. list_any (λ e. index_of a m.cols e == l) m.entries) (all_lines a m)
+filled_lines a m = filter (is_filled a m.cols m.entries) (all_lines a m)
 
 -- how many entries a row has
 abbrev pub count_in_row : Matrix → ℕ → ℕ

@@ -4,7 +4,6 @@ use Rattle.std.specs.List.{range_with_len}
 use Rattle.bern_base.specs.declared.axes.Axis.{Axis}
 use Rattle.bern_base.specs.declared.axes.Axis.TheVariants as axis
 use Rattle.format_model.specs.Content.{Content, One, Two}
-use Rattle.format_model.specs.Levels.{Level}
 use Rattle.format_model.specs.Trees.{Tree, content}
 
 -- a part that is stored whole: whether it has one level, the axis of its outer level, the index of each of its rows and columns,

@@ -1,7 +1,10 @@
 pub mod Axes
+pub mod Checks
 pub mod Content
+pub mod Elements
 pub mod Estimates
 pub mod Grids
+pub mod Laws
 pub mod Levels
 pub mod Made
 pub mod Stored

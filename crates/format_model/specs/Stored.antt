@@ -1,5 +1,5 @@
 -- Which elements of a matrix each format stores, and with which values.
-use Rattle.std.specs.Prelude.{ℕ, ◌+◌, ◌*◌, ◌/◌, ◌%◌, ◌==◌, Bool, true, false, ◌&&◌, List, map, slice_index, ℤ, pos, ◌-ℤ◌}
+use Rattle.std.specs.Prelude.{ℕ, ◌*◌, ◌/◌, ◌%◌, ◌==◌, Bool, true, ◌&&◌, List, map, slice_index, ℤ, pos, ◌-ℤ◌}
 use Rattle.std.specs.List.{filter, list_any, range_with_len}
 use Rattle.std.specs.Ordering.{int_eq}
 use Rattle.bern_base.specs.Matrix.{element}

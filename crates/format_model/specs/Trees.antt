@@ -45,9 +45,11 @@ weight_at t level parent = steps_of (level_at t.levels level).lookup (length (t.
 abbrev pub child_at : List (ℕ × ℕ) → ℕ → Option ℕ
 child_at children index = lookup (λ i. i == index) children
 
--- one root; children are nodes of the next level; no index stands twice below a parent; indices rise where a level is ordered; and
+-- one or two levels and one root; children are nodes of the next level; no index stands twice below a parent; indices rise where a level is ordered; and
 -- none is past the largest index
 pub record IsTree (t : Tree) : Type 0 where
+  pub some : 0 < depth_of t
+  pub few : depth_of t ≤ 2
   pub root : t.nodes 0 ≡ 1
   pub within : (level parent : ℕ) → IsParent t level parent → All (λ c. c.1 < t.nodes (suc level)) (t.children level parent)
   pub once : (level parent : ℕ) → IsParent t level parent → (index : ℕ) → count_by (λ c. c.0 == index) (t.children level parent) ≤ 1

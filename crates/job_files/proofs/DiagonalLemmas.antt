@@ -5,7 +5,7 @@ use Rattle.std.specs.List.{count_by, range_with_len}
 use Rattle.std.proofs.lemmas.Bool.Decides.{nat_tests}
 use Rattle.std.proofs.lemmas.Int.{ints}
 use Rattle.std.proofs.lemmas.List.Sums.{sum_by-cons}
-use Rattle.job_files.specs.Weight.{is_column, diagonal_len}
+use Rattle.format_model.specs.Weights.{is_column, diagonal_len}
 
 -- one more number in front of a range
 more : (low high a n : ℕ) → cond (cond (nat_lt a low) false (nat_lt a high)) 1 0 + (min (a + 1 + n) high - max (a + 1) low) ≡ min (a + suc n) high - max a low

@@ -19,7 +19,8 @@ use Rattle.job_files.specs.declared.uses.Use.TheVariants as by
 use Rattle.job_files.specs.declared.serving.Loaded.{Loaded}
 use Rattle.job_files.specs.Uses.{file_of, is_of, mentioned}
 use Rattle.job_files.specs.Serving.{Beside, IsServedSoFar, IsFit, IsFitFor, IsServed, Serves, beside_first, is_known}
-use Rattle.job_files.specs.FileOrder.{IsForUse, IsOfUse, LoadsUses, Refused, Suits, broken_in, broken_rule, first_broken, first_of, found, has, has_sizes, judged, served, stop_of, stops, weight_after}
+use Rattle.format_model.specs.Checks.{first_of, has_sizes}
+use Rattle.job_files.specs.FileOrder.{IsForUse, IsOfUse, LoadsUses, Refused, Suits, broken_in, broken_rule, first_broken, found, has, judged, served, stop_of, stops, weight_after}
 use Rattle.job_files.proofs.MentionLemmas.{around, mentioned_again, mentioned_first}
 use Rattle.job_files.proofs.WeightLemmas.{stops_at, weight_more}
 

@@ -1,16 +1,17 @@
 -- The order of a job's files and of the F rules: the files by first mention, each with the rules of its uses and then the weight.
 -- It ends with the matrix of each use, or stops at the first refusal or at a file that is not there.
-use Rattle.std.specs.Prelude.{◌≡◌, ℕ, ◌+◌, ◌*◌, ◌≤◌, Bool, ◌&&◌, ◌==◌, nat_lt, if◌then◌else◌, List, [], ◌∷◌, ◌++◌, length, Option, Some, None, Result, Ok, Err, ⊤}
+use Rattle.std.specs.Prelude.{◌≡◌, ℕ, ◌+◌, ◌*◌, ◌≤◌, nat_lt, if◌then◌else◌, List, [], ◌∷◌, ◌++◌, length, Option, Some, None, Result, Ok, Err, ⊤}
 use Rattle.std.specs.List.{AllZip, count_by}
 use Rattle.bern_base.specs.Matrix.{IsMatrix}
 use Rattle.bern_base.specs.declared.job.Checked.{Checked}
 use Rattle.bern_base.specs.declared.limits.TheConstants.{MOST_WEIGHT}
 use Rattle.bern_base.specs.declared.matrix.Matrix.{Matrix}
 use Rattle.bern_base.specs.declared.refusal.Rule.{Rule}
-use Rattle.bern_base.specs.declared.refusal.Rule.TheVariants.{F1, F7}
+use Rattle.bern_base.specs.declared.refusal.Rule.TheVariants.{F7}
 use Rattle.bern_base.specs.declared.refusal.Refusal.{Refusal}
 use Rattle.bern_base.specs.declared.refusal.Refusal.TheVariants.{File}
 use Rattle.bern_ports.specs.Files.{Files, bytes_of}
+use Rattle.format_model.specs.Checks.{first_of, sizes_rule}
 use Rattle.mm_profile.specs.Profile.{Fault, mm, and_then}
 use Rattle.job_files.specs.Uses.{entries_in, file_of, is_of, matrices_from, mentioned, uses_of}
 use Rattle.job_files.specs.Weight.{weight_of}
@@ -24,21 +25,13 @@ pub data Stop : Type 0 where
   Refused : (refusal : Refusal) → Stop
   Missing : (name : List ℕ) → Stop
 
--- a matrix is of these sizes
-abbrev pub has_sizes : ℕ → ℕ → Matrix → Bool
-has_sizes rows cols m = m.rows == rows && m.cols == cols
-
 -- the rule that a file's matrix breaks in a use; for an array it is F1: its rows and columns are the array's
 abbrev pub broken_rule : Matrix → Use → Option Rule
-broken_rule m (by.Array file rows cols) = if has_sizes rows cols m then None else Some F1
+broken_rule m (by.Array file rows cols) = sizes_rule rows cols m
 
 -- a use of another file asks nothing
 abbrev pub broken_in : List ℕ → Matrix → Use → Option Rule
 broken_in name m u = if is_of name u then broken_rule m u else None
-
-abbrev pub first_of : Option Rule → Option Rule → Option Rule
-first_of None later = later
-first_of (Some rule) later = Some rule
 
 -- the first rule that a file's matrix breaks, over the uses of the file in their order
 abbrev pub first_broken : List ℕ → Matrix → List Use → Option Rule

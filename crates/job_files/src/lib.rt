@@ -5,7 +5,7 @@
 #![tactic(auto)]
 
 mod arrays;
-mod formats;
+mod format_weights;
 mod laws;
 mod load_error;
 mod matrix_file;

@@ -1,9 +1,10 @@
 ghost use Rattle.std.specs.Prelude.{◌≡◌, position};
 ghost use Rattle.std.specs.List.{count_by};
-ghost use Rattle.job_files.specs.FileOrder.{broken_rule, first_broken, has_sizes};
+ghost use Rattle.job_files.specs.FileOrder.{broken_rule, first_broken};
 ghost use Rattle.job_files.specs.Uses.{file_of, is_of};
 
 use bern_base::{Items, Matrix, Rule, Text};
+use formats::check_sizes;
 
 /// A use of a file: what is read from it.
 #[derive(Debug, Drop)]
@@ -27,21 +28,9 @@ impl Use {
         ensures { result ≡ broken_rule matrix.now self.now }
     {
         match self {
-            Use::Array { rows, cols, .. } => {
-                if has_sizes(matrix, *rows, *cols) {
-                    None
-                } else {
-                    Some(Rule::F1)
-                }
-            }
+            Use::Array { rows, cols, .. } => check_sizes(*rows, *cols, matrix).err(),
         }
     }
-}
-
-fn has_sizes(matrix: &Matrix, rows: u32, cols: u32) -> bool
-    ensures { result ≡ has_sizes rows cols matrix.now }
-{
-    matrix.rows == rows && matrix.cols == cols
 }
 
 fn is_of(wanted: &Use, file: &[u8]) -> bool

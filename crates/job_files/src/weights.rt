@@ -1,7 +1,7 @@
 ghost use Rattle.std.specs.Prelude.{◌≡◌, ◌+◌, ◌<◌, ◌≤◌, IfSome, IsNone};
 ghost use Rattle.job_files.specs.Weight.{array_weight, weight_of};
 
-use crate::formats::shape_weight;
+use crate::format_weights::shape_weight;
 use bern_base::{ArrayDecl, Checked, FormatDecl, Items, MOST_WEIGHT};
 
 /// What the arrays of a job weigh without files on so many ranks, or nothing where that is above `MOST_WEIGHT`. It takes

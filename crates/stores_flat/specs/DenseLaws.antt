@@ -11,7 +11,7 @@ use Rattle.format_model.specs.declared.limits.TheConstants.{MOST_INDEX}
 use Rattle.format_model.specs.Content.{One, Two}
 use Rattle.format_model.specs.Grids.{Grid, Lists, grid_col, grid_content, grid_row, grid_value}
 use Rattle.format_model.specs.Made.{made_all, made_once, made_rises}
-use Rattle.format_model.specs.Trees.{IsTree}
+use Rattle.format_model.specs.Trees.{IsTree, depth_of}
 use Rattle.stores_flat.specs.declared.layout.Layout.{Layout}
 use Rattle.stores_flat.specs.declared.layout.Layout.TheVariants as layout
 use Rattle.stores_flat.specs.Dense.{cols_of, dense_children, dense_grid, dense_nodes, dense_tree, elements_of, grid_with, is_single, level_extent, place_of, rows_of}
@@ -19,6 +19,12 @@ use Rattle.stores_flat.specs.Dense.{cols_of, dense_children, dense_grid, dense_n
 extent_fits : (lines width level most : ℕ) → lines ≤ most → width ≤ most → level_extent lines width level ≤ most
 extent_fits lines width zero most first second = first
 extent_fits lines width (suc level) most first second = second
+
+-- one level, or two
+depth_fits : (l : Layout) (lines width : ℕ) (values : List ℕ) → (0 < depth_of (dense_tree l lines width values)) × (depth_of (dense_tree l lines width values) ≤ 2)
+depth_fits layout.Single lines width values = (omega arith, omega arith)
+depth_fits layout.RowMajor lines width values = (omega arith, omega arith)
+depth_fits layout.ColMajor lines width values = (omega arith, omega arith)
 
 -- children have stretches of their own, and every index rises by one
 pub dense_is_tree : (l : Layout) (lines width : ℕ) (values : List ℕ) → lines < 2 ^ 32 → width < 2 ^ 32 → IsTree (dense_tree l lines width values)
@@ -28,6 +34,8 @@ dense_is_tree l lines width values lines_fit width_fits =
     let child : ℕ → ℕ → ℕ → ℕ = λ level parent i. parent * level_extent lines width level + i in
     let most : (level : ℕ) → extent level ≤ MOST_INDEX = λ level. extent_fits lines width level MOST_INDEX (omega arith) (omega arith) in
     record {
+      some = (depth_fits l lines width values).0;
+      few = (depth_fits l lines width values).1;
       root = refl;
       within = λ level parent is. made_all (λ c. c.1 < dense_nodes lines width (suc level)) index (child level parent) 0 (extent level) (λ k low high.
           omega (arith, mul-add-lt parent (extent level) k (dense_nodes lines width level) is.1 (omega arith)));

@@ -21,6 +21,8 @@ list_is_tree a indices values apart small =
     let leaf : ℕ → ℕ = λ place. place in
     let n : ℕ = length indices in
     record {
+      some = omega arith;
+      few = omega arith;
       root = refl;
       within = λ level parent is. made_all (λ c. c.1 < n) at leaf 0 n (λ k low high. omega arith);
       once = λ level parent is index. made_once at leaf 0 n index (λ i j low up high same. apart i j 0 up (omega arith) same);

@@ -1,0 +1,17 @@
+//! The formats of arrays in one place: which matrices suit them, what is known of them before a loop runs, and any store
+//! behind one type.
+//!
+//! Rows, columns and element numbers count from 0.
+#![tactic(auto)]
+
+mod any_store;
+mod building;
+mod checks;
+mod digits;
+mod filled;
+mod statistics;
+
+pub use any_store::AnyStore;
+pub use building::build;
+pub use checks::{check_shape, check_sizes};
+pub use statistics::stats;

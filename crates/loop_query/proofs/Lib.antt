@@ -1,0 +1,10 @@
+pub mod ActivityLemmas
+pub mod AnswerLemmas
+pub mod FreeLemmas
+pub mod MeasuredLemmas
+pub mod PlanLemmas
+pub mod ProductLemmas
+pub mod SizeLemmas
+pub mod SumLemmas
+pub mod ToldLemmas
+pub mod ZeroLemmas

@@ -1,0 +1,6 @@
+use Rattle.std.proofs.Common.{◌≡◌, ◌++◌, take, drop, map}
+use Rattle.term_model.specs.Terms.{times, read_term}
+use Rattle.loop_query.proofs.products.with_reference.Given as goal
+
+abbrev pub invariant-loop-term : goal.invariant-loop-term
+invariant-loop-term l = l.term-items ≡ map (λ t. times t (read_term l.dense l.reference)) (take l.term-index l.initial.term-items) ++ drop l.term-index l.initial.term-items

@@ -1,0 +1,4 @@
+pub mod ActivityLaws
+pub mod AnswerLaws
+pub mod PlanLaws
+pub mod TermLaws

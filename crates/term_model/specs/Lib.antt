@@ -1,0 +1,5 @@
+pub mod Activity
+pub mod Answers
+pub mod Plans
+pub mod Queries
+pub mod Terms
