@@ -1,5 +1,5 @@
 -- The children of dense levels, and the places of elements.
-use Rattle.std.proofs.Common.{◌≡◌, ◌≢◌, ◌∙◌, ℕ, zero, suc, ◌+◌, ◌*◌, ◌/◌, ◌%◌, ◌^◌, ◌<◌, ◌≤◌, List, length, Some, None, refl, sym, ap, subst, arith, zero-add, ⊎_elim}
+use Rattle.std.proofs.Common.{◌≡◌, ◌≢◌, ◌∙◌, ℕ, zero, suc, ◌+◌, ◌*◌, ◌/◌, ◌%◌, ◌^◌, ◌<◌, ◌≤◌, List, [], length, Some, None, refl, sym, ap, subst, arith, zero-add, ⊎_elim}
 use Rattle.std.specs.Prelude.{replicate, slice_index, slice_set}
 use Rattle.std.specs.List.{slice_get}
 use Rattle.std.proofs.lemmas.Bool.{cases_eq}
@@ -14,7 +14,7 @@ use Rattle.format_model.specs.Trees.{child_at}
 use Rattle.stores_flat.specs.declared.layout.Layout.{Layout}
 use Rattle.stores_flat.specs.declared.layout.Layout.TheVariants as layout
 use Rattle.stores_flat.specs.Dense.{cols_of, dense_children, dense_grid, dense_nodes, dense_shape, elements_of, grid_with, is_single, level_extent, outer_of, place_of, rows_of}
-use Rattle.stores_flat.specs.DenseLaws.{element_is}
+use Rattle.stores_flat.specs.DenseLaws.{depth_fits, element_is}
 
 pub length-dense_children : (extent parent : ℕ) → length (dense_children extent parent) ≡ extent
 length-dense_children extent parent = length-made (λ i. i) (λ i. parent * extent + i) 0 extent
@@ -31,13 +31,7 @@ dense_found extent parent index child below is =
 pub dense_none : (extent parent index : ℕ) → extent ≤ index → child_at (dense_children extent parent) index ≡ None
 dense_none extent parent index past = made_none (λ i. i) (λ i. parent * extent + i) 0 extent index (λ k low high same. omega arith)
 
--- a dense store has one level or two
-pub few_levels : (l : Layout) → length (levels_of (dense_shape (is_single l) (outer_of l))) ≤ 2
-few_levels layout.Single = omega arith
-few_levels layout.RowMajor = omega arith
-few_levels layout.ColMajor = omega arith
-
--- and the nodes below each of them are no more than a u32 counts
+-- the nodes below a level are no more than a u32 counts
 pub nodes_fit : (lines width level : ℕ) → level < 2 → lines < 2 ^ 32 → lines * width < 2 ^ 32 → dense_nodes lines width level * level_extent lines width level < 2 ^ 32
 nodes_fit lines width zero low lines_fit few = omega arith
 nodes_fit lines width (suc zero) low lines_fit few = omega arith
@@ -48,7 +42,7 @@ pub stretch_fits : (l : Layout) (lines width level parent : ℕ) → level < len
     parent * level_extent lines width level + level_extent lines width level < 2 ^ 32
 stretch_fits l lines width level parent low below lines_fit few =
     let extent : ℕ = level_extent lines width level in
-    let fits = nodes_fit lines width level (omega (arith, few_levels l)) lines_fit few in
+    let fits = nodes_fit lines width level (omega (arith, (depth_fits l lines width []).1)) lines_fit few in
     let most = row_fits parent extent (dense_nodes lines width level) extent below (omega arith) in omega (arith, fits, most)
 
 -- a part has as many elements as its lines have
