@@ -1,5 +1,5 @@
 -- The children of dense levels, and the places of elements.
-use Rattle.std.proofs.Common.{◌≡◌, ◌≢◌, ◌∙◌, ℕ, zero, suc, ◌+◌, ◌*◌, ◌/◌, ◌%◌, ◌^◌, ◌<◌, ◌≤◌, List, length, Some, None, refl, sym, ap, subst, arith, zero-add, ⊎_elim}
+use Rattle.std.proofs.Common.{◌≡◌, ◌≢◌, ◌∙◌, ℕ, zero, suc, ◌+◌, ◌*◌, ◌/◌, ◌%◌, ◌^◌, ◌<◌, ◌≤◌, List, [], length, Some, None, refl, sym, ap, subst, arith, zero-add, ⊎_elim}
 use Rattle.std.specs.Prelude.{replicate, slice_index, slice_set}
 use Rattle.std.specs.List.{slice_get}
 use Rattle.std.proofs.lemmas.Bool.{cases_eq}
@@ -8,12 +8,13 @@ use Rattle.std.proofs.lemmas.List.FromFn.{length-map-range_with_len}
 use Rattle.std.proofs.lemmas.Option.{slice_get-get_or, slice_get_within}
 use Rattle.std.proofs.lemmas.Nat.{div-add-mod', mul-add-lt, row_fits, rows, same_from_place}
 use Rattle.format_model.specs.Made.{length-made, made_at, made_found, made_none}
+use Rattle.format_model.specs.Grids.{Grid, with_element}
 use Rattle.format_model.specs.Levels.{levels_of}
 use Rattle.format_model.specs.Trees.{child_at}
 use Rattle.stores_flat.specs.declared.layout.Layout.{Layout}
 use Rattle.stores_flat.specs.declared.layout.Layout.TheVariants as layout
-use Rattle.stores_flat.specs.Dense.{cols_of, dense_children, dense_nodes, dense_shape, elements_of, is_single, level_extent, outer_of, place_of, rows_of}
-use Rattle.stores_flat.specs.DenseLaws.{element_is}
+use Rattle.stores_flat.specs.Dense.{cols_of, dense_children, dense_grid, dense_nodes, dense_shape, elements_of, grid_with, is_single, level_extent, outer_of, place_of, rows_of}
+use Rattle.stores_flat.specs.DenseLaws.{depth_fits, element_is}
 
 pub length-dense_children : (extent parent : ℕ) → length (dense_children extent parent) ≡ extent
 length-dense_children extent parent = length-made (λ i. i) (λ i. parent * extent + i) 0 extent
@@ -30,13 +31,7 @@ dense_found extent parent index child below is =
 pub dense_none : (extent parent index : ℕ) → extent ≤ index → child_at (dense_children extent parent) index ≡ None
 dense_none extent parent index past = made_none (λ i. i) (λ i. parent * extent + i) 0 extent index (λ k low high same. omega arith)
 
--- a dense store has one level or two
-pub few_levels : (l : Layout) → length (levels_of (dense_shape (is_single l) (outer_of l))) ≤ 2
-few_levels layout.Single = omega arith
-few_levels layout.RowMajor = omega arith
-few_levels layout.ColMajor = omega arith
-
--- and the nodes below each of them are no more than a u32 counts
+-- the nodes below a level are no more than a u32 counts
 pub nodes_fit : (lines width level : ℕ) → level < 2 → lines < 2 ^ 32 → lines * width < 2 ^ 32 → dense_nodes lines width level * level_extent lines width level < 2 ^ 32
 nodes_fit lines width zero low lines_fit few = omega arith
 nodes_fit lines width (suc zero) low lines_fit few = omega arith
@@ -47,7 +42,7 @@ pub stretch_fits : (l : Layout) (lines width level parent : ℕ) → level < len
     parent * level_extent lines width level + level_extent lines width level < 2 ^ 32
 stretch_fits l lines width level parent low below lines_fit few =
     let extent : ℕ = level_extent lines width level in
-    let fits = nodes_fit lines width level (omega (arith, few_levels l)) lines_fit few in
+    let fits = nodes_fit lines width level (omega (arith, (depth_fits l lines width []).1)) lines_fit few in
     let most = row_fits parent extent (dense_nodes lines width level) extent below (omega arith) in omega (arith, fits, most)
 
 -- a part has as many elements as its lines have
@@ -65,11 +60,14 @@ column_major : (lines width e : ℕ) → e < lines * width → (e % lines < line
 column_major zero width e below = absurd (omega arith)
 column_major (suc more) width e below = (omega arith, grind (arith, rows))
 
+pub place_in_columns : (lines width e : ℕ) → e < lines * width → e % lines * width + e / lines < lines * width
+place_in_columns lines width e below =
+    let inside = column_major lines width e below in omega (arith, mul-add-lt (e % lines) width (e / lines) lines inside.0 inside.1)
+
 pub place_within : (l : Layout) (lines width e : ℕ) → e < lines * width → place_of l lines width e < lines * width
 place_within layout.Single lines width e below = below
 place_within layout.RowMajor lines width e below = below
-place_within layout.ColMajor lines width e below =
-    let inside = column_major lines width e below in omega (arith, mul-add-lt (e % lines) width (e / lines) lines inside.0 inside.1)
+place_within layout.ColMajor lines width e below = place_in_columns lines width e below
 
 -- two elements lie at two places
 pub place_apart : (l : Layout) (lines width e k : ℕ) → e < lines * width → k < lines * width → e ≢ k → place_of l lines width e ≢ place_of l lines width k
@@ -98,6 +96,13 @@ elements_set l lines width values e v full below =
     (λ (other : k ≢ e). get_or-set_other values (place_of l lines width e) (place_of l lines width k) v 0 (place_apart l lines width k e under below other)
     ∙ sym (get_or-set_other (elements_of l lines width values) e k v 0 other ∙ element_is l lines width values k inside))
     (cases_eq k e))
+
+pub dense_set : (l : Layout) (lines width : ℕ) (values new : List ℕ) (e p v : ℕ) → length values ≡ lines * width → e < length (elements_of l lines width values) → p ≡ place_of l lines width e → new ≡ slice_set values p v →
+    Some (dense_grid l lines width new) ≡ with_element (Some (dense_grid l lines width values)) e v
+dense_set l lines width values new e p v full below place is =
+    let grid : List ℕ → Grid = grid_with (is_single l) (outer_of l) (rows_of l lines width) (cols_of l lines width) in
+    ap (λ vs. Some (grid vs)) (ap (elements_of l lines width) (is ∙ ap (λ k. slice_set values k v) place)
+    ∙ elements_set l lines width values e v full (subst (λ n. e < n) (length-elements_of l lines width values) below))
 
 -- zeros have zeros for their elements
 pub elements_zero : (l : Layout) (lines width : ℕ) → elements_of l lines width (replicate (lines * width) 0) ≡ replicate (rows_of l lines width * cols_of l lines width) 0

@@ -21,7 +21,7 @@ extent_fits lines width zero most first second = first
 extent_fits lines width (suc level) most first second = second
 
 -- one level, or two
-depth_fits : (l : Layout) (lines width : ℕ) (values : List ℕ) → (0 < depth_of (dense_tree l lines width values)) × (depth_of (dense_tree l lines width values) ≤ 2)
+pub depth_fits : (l : Layout) (lines width : ℕ) (values : List ℕ) → (0 < depth_of (dense_tree l lines width values)) × (depth_of (dense_tree l lines width values) ≤ 2)
 depth_fits layout.Single lines width values = (omega arith, omega arith)
 depth_fits layout.RowMajor lines width values = (omega arith, omega arith)
 depth_fits layout.ColMajor lines width values = (omega arith, omega arith)
