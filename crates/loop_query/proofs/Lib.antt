@@ -5,6 +5,7 @@ pub mod MeasuredLemmas
 pub mod PlanLemmas
 pub mod ProductLemmas
 pub mod SizeLemmas
+pub mod StepLemmas
 pub mod SumLemmas
 pub mod ToldLemmas
 pub mod ZeroLemmas

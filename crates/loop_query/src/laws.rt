@@ -2,7 +2,7 @@
 
 ghost use Rattle.loop_query.specs.ActivityLaws.{InactiveTermsAddNothing, ZerosStay, ActiveTermsSum, ActiveTermsSumInTurns, FilesBeginWithZeros};
 ghost use Rattle.loop_query.specs.AnswerLaws.{AnswersAreActivePoints};
-ghost use Rattle.loop_query.specs.PlanLaws.{FormatsTellPlans, ListedPlansAreReady, ReadyPlansAreListed, SomePlanIsListed};
+ghost use Rattle.loop_query.specs.PlanLaws.{FormatsTellPlans, ListedPlansAreReady, ReadyPlansAreListed, SomePlanIsListed, StepsBindTheirLevels};
 ghost use Rattle.loop_query.specs.TermLaws.{TermsSum, TermsHaveSizes, TermsAreFew, TermsAreToldApart, TermsReadTheBody};
 
 /// At every point and in every state the values of the terms sum to the value of the expression.
@@ -35,11 +35,13 @@ pub fn active_terms_sum_in_turns()
     ensures files { FilesBeginWithZeros }
 {}
 
-/// The list of plans holds the sequences of ready steps that bind all variables, these alone, and at least one.
+/// The list of plans holds the sequences of ready steps that bind all variables, these alone, and at least one. After a
+/// step the subscripts of each level that it locates are bound.
 pub fn plans_are_ready_steps()
     ensures ready { ListedPlansAreReady }
     ensures all { ReadyPlansAreListed }
     ensures some { SomePlanIsListed }
+    ensures bound { StepsBindTheirLevels }
 {}
 
 /// The plans of a term by what was measured of its arrays are those by their formats.

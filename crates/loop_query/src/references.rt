@@ -1,4 +1,4 @@
-ghost use Rattle.std.specs.Prelude.{◌≡◌, ◌++◌, ◌<◌, length, slice_get, OnOk};
+ghost use Rattle.std.specs.Prelude.{◌≡◌, ◌++◌, ◌+◌, ◌<◌, length, slice_get, OnOk};
 ghost use Rattle.term_model.specs.Terms.{is_dense_in, references_of};
 
 use bern_base::{Checked, Items, NoMemory, Ref};
@@ -39,7 +39,7 @@ pub(crate) fn append_copies(references: &mut Items<Ref>, more: &[Ref]) -> Result
 
 /// The reference of a term at a place: the dense ones stand first, and then the sparse ones.
 pub fn reference_at(term: &Term, place: usize) -> &Ref
-    requires { place < length (references_of term.now) }
+    requires { place < length term.now.dense + length term.now.sparse }
     ensures { slice_get (references_of term.now) place ≡ Some result.now }
 {
     let dense = term.dense.len();
