@@ -53,7 +53,8 @@ fn with_factor(
     terms: Items<Term>,
     factor: &Factor,
 ) -> Result<Items<Term>, NoMemory>
-    ensures { IfOk result (λ more. more ≡ choices terms (factor_terms (is_dense_in job.now) (terms_by (is_dense_in job.now) levels) factor.now)) }
+    ensures { IfOk result (λ more.
+        more ≡ choices terms (factor_terms (is_dense_in job.now) (terms_by (is_dense_in job.now) levels) factor.now)) }
 {
     match factor {
         Factor::Num(number) => Ok(scaled(terms, *number)),
