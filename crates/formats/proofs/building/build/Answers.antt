@@ -1,4 +1,3 @@
-use Rattle.bern_base.specs.declared.axes.Axis.TheVariants as axis
 use Rattle.bern_base.specs.declared.shape.Shape.TheVariants as shape
 use Rattle.formats.proofs.BuildLemmas.{dense_matrix, dense_vector, described}
 use Rattle.formats.proofs.building.build.Goals as goal

@@ -1,4 +1,4 @@
-use Rattle.std.proofs.Common.{◌≡◌, List, length, take, take_all, sym, ap, ◌∙◌, subst, arith}
+use Rattle.std.proofs.Common.{◌≡◌, List, take, take_all, ◌∙◌, subst, arith}
 use Rattle.bern_base.specs.declared.matrix.Entry.{Entry}
 use Rattle.format_model.specs.Axes.{extent_of}
 use Rattle.formats.proofs.MarkLemmas.{AreMarked, all_marked}
