@@ -1,5 +1,5 @@
 -- Sparse arrays keep their zeros, and files begin with them.
-use Rattle.std.proofs.Common.{◌≡◌, ◌≢◌, ◌∙◌, ℕ, zero, suc, ◌*◌, ◌/◌, ◌%◌, ◌^◌, ◌==◌, Bool, true, false, not, ◌&&◌, List, [], ◌∷◌, Option, Some, None, map, take, get_or, ℤ, refl, sym, ap, subst, ⊎_elim, arith}
+use Rattle.std.proofs.Common.{◌≡◌, ◌≢◌, ◌∙◌, ℕ, zero, suc, ◌*◌, ◌/◌, ◌%◌, ◌^◌, ◌<◌, ◌==◌, Bool, true, false, not, ◌&&◌, List, [], ◌∷◌, Option, Some, None, length, map, take, get_or, ℤ, refl, sym, ap, subst, ⊎_elim, arith}
 use Rattle.std.specs.Prelude.{slice_get, if◌then◌else◌}
 use Rattle.std.proofs.lemmas.List.{get_or-set_other, get_or-replicate, get_or_past, length-replicate}
 use Rattle.std.proofs.lemmas.List.FromFn.{get_or-map-range_with_len, length-map-range_with_len}
@@ -7,7 +7,7 @@ use Rattle.std.proofs.Math.Nat.{zero-add}
 use Rattle.std.proofs.lemmas.Bool.{cases_lt, eq-eqb, eqb-true}
 use Rattle.std.proofs.lemmas.List.Folds.{list_any_at}
 use Rattle.std.proofs.lemmas.Nat.{div-mul-add, mod-mul-add}
-use Rattle.std.specs.List.{All, fold, range_with_len}
+use Rattle.std.specs.List.{All, fold, list_any, range_with_len}
 use Rattle.bern_base.specs.Matrix.{IsInside, element, number}
 use Rattle.bern_base.specs.declared.job.ArrayDecl.{ArrayDecl}
 use Rattle.bern_base.specs.declared.job.Checked.{Checked}
@@ -22,7 +22,7 @@ use Rattle.job_model.specs.Nests.{at_point, after_nest, after_found, after_turn,
 use Rattle.job_model.specs.Points.{points, spans_of}
 use Rattle.job_model.specs.Runnable.{IsTarget}
 use Rattle.job_model.specs.State.{State, read, zeros}
-use Rattle.format_model.specs.Checks.{is_astray}
+use Rattle.format_model.specs.Checks.{has_astray, is_astray}
 use Rattle.format_model.specs.Stored.{is_stored, stands_at, has_entry_at, is_on_diagonal}
 use Rattle.term_model.specs.Activity.{Entries, SparseHoldZeros, stores, stores_in, entries_of, file_entries, first_entries}
 use Rattle.term_model.specs.Terms.{is_whole}
@@ -88,14 +88,14 @@ no_entry rows cols entries n inside unstored = λ k d below same.
     absurd cc
 
 -- off the listed diagonals of a diagonal format entries have the value 0
-straight_zero : (offsets : List ℤ) (e : Entry) → is_astray (shape.Diagonal offsets) e ≡ false → is_on_diagonal offsets e.row e.col ≡ false → e.value ≡ 0
+straight_zero : (offsets : List ℤ) (e : Entry) → is_astray offsets e ≡ false → is_on_diagonal offsets e.row e.col ≡ false → e.value ≡ 0
 straight_zero offsets e straight off = by_test (e.value == 0) refl (subst (λ b. (not (e.value == 0) && not b) ≡ false) off straight)
   where
     by_test : (b : Bool) → (e.value == 0) ≡ b → (not b && true) ≡ false → e.value ≡ 0
     by_test true is none = eqb-true e.value 0 is
     by_test false is none = absurd cc
 
-off_diagonals : (offsets : List ℤ) (rows cols : ℕ) (entries : List Entry) (n : ℕ) → All (IsInside rows cols) entries → All (λ e. is_astray (shape.Diagonal offsets) e ≡ false) entries →
+off_diagonals : (offsets : List ℤ) (rows cols : ℕ) (entries : List Entry) (n : ℕ) → All (IsInside rows cols) entries → All (λ e. is_astray offsets e ≡ false) entries →
     is_on_diagonal offsets (n / cols) (n % cols) ≡ false → All (λ e. number cols e ≡ n → e.value ≡ 0) entries
 off_diagonals offsets rows cols entries n inside straight unstored = λ k d below same.
     let e : Entry = get_or entries k d in
@@ -103,12 +103,21 @@ off_diagonals offsets rows cols entries n inside straight unstored = λ k d belo
     let col : n % cols ≡ e.col = ap (λ m. m % cols) (sym same) ∙ mod-mul-add e.row cols e.col (inside k d below).1 in
     straight_zero offsets e (straight k d below) (ap (λ r. is_on_diagonal offsets r e.col) (sym row) ∙ ap (is_on_diagonal offsets (n / cols)) (sym col) ∙ unstored)
 
+-- where no element of a list passes a test, each one fails it
+each_fails : (p : Entry → Bool) (entries : List Entry) → list_any p entries ≡ false → All (λ e. p e ≡ false) entries
+each_fails p entries none = λ k d below. by_test k d below (p (get_or entries k d)) refl
+  where
+    by_test : (k : ℕ) (d : Entry) → k < length entries → (b : Bool) → p (get_or entries k d) ≡ b → p (get_or entries k d) ≡ false
+    by_test k d below true is = let some : list_any p entries ≡ true = list_any_at p entries k d below is in absurd cc
+    by_test k d below false is = is
+
 -- an entry at an element that is not stored has the value 0
-unstored_zero : (s : Shape) (rows cols : ℕ) (entries : List Entry) (n : ℕ) → All (IsInside rows cols) entries → All (λ e. is_astray s e ≡ false) entries → is_stored s entries (n / cols) (n % cols) ≡ false →
+unstored_zero : (s : Shape) (rows cols : ℕ) (entries : List Entry) (n : ℕ) → All (IsInside rows cols) entries → has_astray s entries ≡ false → is_stored s entries (n / cols) (n % cols) ≡ false →
     All (λ e. number cols e ≡ n → e.value ≡ 0) entries
 unstored_zero shape.DenseOne rows cols entries n inside straight unstored = absurd cc
 unstored_zero (shape.DenseDense outer) rows cols entries n inside straight unstored = absurd cc
-unstored_zero (shape.Diagonal offsets) rows cols entries n inside straight unstored = off_diagonals offsets rows cols entries n inside straight unstored
+unstored_zero (shape.Diagonal offsets) rows cols entries n inside straight unstored =
+    off_diagonals offsets rows cols entries n inside (each_fails (is_astray offsets) entries straight) unstored
 unstored_zero other rows cols entries n inside straight unstored = no_entry rows cols entries n inside unstored
 
 -- an element of zeros, also past their end

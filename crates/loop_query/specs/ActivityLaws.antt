@@ -6,7 +6,7 @@ use Rattle.bern_base.specs.declared.job.ArrayDecl.{ArrayDecl}
 use Rattle.bern_base.specs.declared.job.Checked.{Checked}
 use Rattle.bern_base.specs.declared.job.Expr.{Expr}
 use Rattle.bern_base.specs.declared.matrix.Entry.{Entry}
-use Rattle.format_model.specs.Checks.{is_astray}
+use Rattle.format_model.specs.Checks.{has_astray}
 use Rattle.job_model.specs.Accepted.{Has, IsAccepted}
 use Rattle.job_model.specs.Nests.{first_state, state_before}
 use Rattle.job_model.specs.State.{State}
@@ -40,7 +40,7 @@ ActiveTermsSumInTurns = (job : Checked) (entries : Entries) (first : State) → 
 -- the entries of an array's file lie inside the array, and none with a value other than 0 lies off the listed diagonals of a diagonal format
 pub record FitsFile (job : Checked) (files : List ℕ → List Entry) (array : ArrayDecl) : Type 0 where
   pub inside : All (IsInside array.rows array.cols) (file_entries files array.file)
-  pub straight : Has job.formats array.format (λ f. All (λ e. is_astray f.shape e ≡ false) (file_entries files array.file))
+  pub straight : Has job.formats array.format (λ f. has_astray f.shape (file_entries files array.file) ≡ false)
 
 -- what the files of a job begin with is such a state
 abbrev pub FilesBeginWithZeros : Type 0
