@@ -7,7 +7,7 @@ use job_files::{LoadError, load_arrays, weight_within};
 use std::alloc::Global;
 use std::test::Fail;
 
-/// A format by its words: its levels and the axis of the outer one, or the offsets of its diagonals.
+/// A format by its words: its levels and the axis of the outer one, the offsets of its diagonals, or the file of its order.
 #[derive(Drop)]
 enum Words {
     DenseOne,
@@ -19,7 +19,7 @@ enum Words {
     ListTwo,
     Jagged,
     Diagonal(&'static [i64]),
-    Permute,
+    Permute(&'static [u8]),
 }
 
 fn shape_of(alloc: Global, words: &Words) -> Result<Shape, NoMemory> {
@@ -33,7 +33,7 @@ fn shape_of(alloc: Global, words: &Words) -> Result<Shape, NoMemory> {
         Words::ListTwo => Shape::ListTwo,
         Words::Jagged => Shape::Jagged,
         Words::Diagonal(offsets) => Shape::Diagonal(Items::from_slice(alloc, offsets)?),
-        Words::Permute => Shape::Permute(Text::from_bytes(alloc, b"order")?),
+        Words::Permute(file) => Shape::Permute(Text::from_bytes(alloc, file)?),
     })
 }
 
@@ -105,7 +105,7 @@ const WEIGHTS: &[(&[(Words, u32, u32, Axis)], Option<u64>)] = &[
         &[
             (Words::DenseOne, 7, 1, Axis::Row),
             (Words::Jagged, 7, 5, Axis::Row),
-            (Words::Permute, 2, 5, Axis::Row),
+            (Words::Permute(b"order"), 2, 5, Axis::Row),
         ],
         Some(16),
     ),
@@ -181,6 +181,10 @@ const FILES: &[(&[u8], &[u8])] = &[
         b"%%MatrixMarket matrix coordinate integer general\n2 1 2\n2 1 7\n",
     ),
     (b"bad", BAD),
+    (
+        b"order",
+        b"%%MatrixMarket matrix array integer general\n2 1\n2\n1\n",
+    ),
 ];
 
 /// They are read in pieces of 16 bytes. A `begin` and the reads of the 61 bytes of `a` make 6 calls, so a second reading
@@ -305,6 +309,85 @@ fn the_first_refusal_or_fault_is_that_of_the_first_file(rt: HostRuntime) -> Resu
                 (*rows, *cols, Axis::Row),
                 file,
             )?;
+        }
+        let mut shelf = shelf(alloc)?.ok_or("a name stands twice")?;
+        let answer = load_arrays(alloc, &name, &job, 3, &mut shelf);
+        assert!(rt; is_as(&answer, outcome));
+    }
+    Ok(())
+}
+
+/// What an array without a file weighs, the formats, the rows, the columns and the files of the arrays after it, and the
+/// answer.
+const SHAPED: &[(u32, &[(Words, u32, u32, &[u8])], Outcome)] = &[
+    (1, &[(Words::Permute(b"order"), 2, 1, b"a")], Outcome::Loaded),
+    (1, &[(Words::Permute(b"order"), 2, 1, b"")], Outcome::Loaded),
+    (
+        1,
+        &[(Words::Permute(b"order"), 1, 1, b"broken")],
+        Outcome::Refused(b"order", 0, Rule::F1),
+    ),
+    (
+        1,
+        &[(Words::Permute(b"order"), 2, 2, b"a")],
+        Outcome::Refused(b"a", 0, Rule::F1),
+    ),
+    (
+        1,
+        &[(Words::Permute(b"pair"), 2, 1, b"broken")],
+        Outcome::Refused(b"pair", 0, Rule::F3),
+    ),
+    (
+        1,
+        &[
+            (Words::ListTwo, 2, 1, b"pair"),
+            (Words::Permute(b"pair"), 2, 1, b"broken"),
+        ],
+        Outcome::Refused(b"pair", 0, Rule::F3),
+    ),
+    (
+        LIMIT - 5,
+        &[(Words::Permute(b"order"), 2, 1, b"a")],
+        Outcome::Loaded,
+    ),
+    (
+        LIMIT - 4,
+        &[(Words::Permute(b"order"), 2, 1, b"a")],
+        Outcome::Refused(b"a", 0, Rule::F7),
+    ),
+    (
+        LIMIT - 3,
+        &[(Words::Permute(b"order"), 2, 1, b"a")],
+        Outcome::Refused(b"order", 0, Rule::F7),
+    ),
+    (1, &[(Words::Diagonal(&[-1]), 2, 1, b"a")], Outcome::Loaded),
+    (
+        1,
+        &[(Words::Diagonal(&[0]), 2, 1, b"a")],
+        Outcome::Refused(b"a", 0, Rule::F2),
+    ),
+    (
+        1,
+        &[(Words::Diagonal(&[0]), 2, 2, b"a")],
+        Outcome::Refused(b"a", 0, Rule::F1),
+    ),
+];
+
+#[test]
+fn an_order_of_rows_is_read_before_its_array(rt: HostRuntime) -> Result<(), Fail> {
+    let alloc = rt.alloc();
+    let name = Text::from_bytes(alloc, b"job")?;
+    for (weight, arrays, outcome) in SHAPED {
+        let mut job = no_arrays(alloc);
+        add_array(
+            alloc,
+            &mut job,
+            &Words::DenseOne,
+            (*weight, 1, Axis::Row),
+            b"",
+        )?;
+        for (words, rows, cols, file) in arrays.iter() {
+            add_array(alloc, &mut job, words, (*rows, *cols, Axis::Row), file)?;
         }
         let mut shelf = shelf(alloc)?.ok_or("a name stands twice")?;
         let answer = load_arrays(alloc, &name, &job, 3, &mut shelf);

@@ -1,2 +1,3 @@
 pub mod BuildLemmas
 pub mod MarkLemmas
+pub mod OrderLemmas

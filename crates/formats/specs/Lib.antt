@@ -2,3 +2,4 @@ pub use Rattle.format_model.specs.Checks
 pub use Rattle.format_model.specs.Estimates
 pub mod AnyStores
 pub mod Builds
+pub mod Orders

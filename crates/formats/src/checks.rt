@@ -1,7 +1,7 @@
 ghost use Rattle.std.specs.Prelude.{◌≡◌};
 ghost use Rattle.std.specs.List.{list_any};
 ghost use Rattle.std.specs.Result.{result_err};
-ghost use Rattle.format_model.specs.Checks.{astray_rule, has_astray, is_astray, shape_rule, sizes_rule};
+ghost use Rattle.format_model.specs.Checks.{diagonals_rule, is_astray, shape_rule, sizes_rule};
 ghost use Rattle.format_model.specs.Stored.{is_on_diagonal};
 
 use bern_base::{ArrayDecl, Entry, FormatDecl, Matrix, Rule, Shape};
@@ -12,7 +12,10 @@ pub fn check_shape(decl: &ArrayDecl, format: &FormatDecl, matrix: &Matrix) -> Re
     ensures { result_err result ≡ shape_rule decl.now format.now matrix.now }
 {
     check_sizes(decl.rows, decl.cols, matrix)?;
-    check_diagonals(&format.shape, matrix)
+    match &format.shape {
+        Shape::Diagonal(offsets) => check_astray(offsets.as_slice(), matrix),
+        _ => Ok(()),
+    }
 }
 
 /// F1 where a matrix has other sizes than these. It takes no memory.
@@ -26,24 +29,14 @@ pub fn check_sizes(rows: u32, cols: u32, matrix: &Matrix) -> Result<(), Rule>
     }
 }
 
-/// F2 where an entry off the listed diagonals of a diagonal format has a value that is not 0.
-fn check_diagonals(shape: &Shape, matrix: &Matrix) -> Result<(), Rule>
-    ensures { result_err result ≡ astray_rule shape.now matrix.now }
+/// F2 where an entry off the diagonals of these offsets has a value that is not 0. It takes no memory.
+pub fn check_astray(offsets: &[i64], matrix: &Matrix) -> Result<(), Rule>
+    ensures { result_err result ≡ diagonals_rule offsets.now matrix.now }
 {
-    if has_astray(shape, matrix.entries.as_slice()) {
+    if any_astray(offsets, matrix.entries.as_slice()) {
         Err(Rule::F2)
     } else {
         Ok(())
-    }
-}
-
-/// Whether a diagonal format has no place for some entry with a value that is not 0.
-fn has_astray(shape: &Shape, entries: &[Entry]) -> bool
-    ensures { result ≡ has_astray shape.now entries.now }
-{
-    match shape {
-        Shape::Diagonal(offsets) => any_astray(offsets.as_slice(), entries),
-        _ => false,
     }
 }
 

@@ -9,9 +9,11 @@ mod building;
 mod checks;
 mod digits;
 mod filled;
+mod order;
 mod statistics;
 
 pub use any_store::AnyStore;
 pub use building::build;
-pub use checks::{check_shape, check_sizes};
+pub use checks::{check_astray, check_shape, check_sizes};
+pub use order::{OrderError, check_order};
 pub use statistics::stats;

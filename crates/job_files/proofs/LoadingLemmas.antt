@@ -15,9 +15,9 @@ use Rattle.job_files.specs.declared.load_error.LoadError.{LoadError}
 use Rattle.job_files.specs.declared.load_error.LoadError.TheVariants as e
 use Rattle.job_files.specs.declared.serving.Loaded.{Loaded}
 use Rattle.job_files.specs.declared.uses.Use.{Use}
-use Rattle.job_files.specs.Answers.{IsOf, IsOfFile, LoadsMatrix, Stands}
+use Rattle.job_files.specs.Answers.{IsOf, IsOfFile, IsRefusalOf, LoadsMatrix, Stands}
 use Rattle.job_files.specs.FileOrder.{Refused, added, first_broken, found, has, judged, served, weight_with, within_limit}
-use Rattle.job_files.specs.Serving.{IsTaken, Takes}
+use Rattle.job_files.specs.Serving.{IsJudged, IsTaken, Takes}
 
 -- what was read of a file is what it has
 pub of_loads : (files : Files) (name : List ℕ) (result : Result Matrix LoadError) → IsOfFile files name result → LoadsMatrix files name result
@@ -69,5 +69,11 @@ takes_read files uses weight name m (Err (e.Refused r)) read taken = elim taken 
       read_weighs files uses weight name m true (read_serves files uses name m None read past.0) (lt-ltb MOST_WEIGHT (weight + added uses name m) past.1.1)
       ∙ ap (λ k. Err (Refused k)) (sym past.1.0)
 ]
-takes_read files uses weight name m (Err (e.ReadFault fault)) read taken = elim taken [ inl broken ↦ absurd broken.2 | inr past ↦ absurd past.1.0 ]
+takes_read files uses weight name m (Err (e.ReadFault fault)) read taken = elim taken [ inl broken ↦ absurd broken | inr past ↦ absurd past.1.0 ]
 takes_read files uses weight name m (Err e.NoMemory) read taken = tt
+
+-- a matrix is refused by the first rule that it breaks
+pub judged_by : (uses : List Use) (name : List ℕ) (m : Matrix) (rule : Rule) (fault : LoadError) → first_broken name m uses ≡ Some rule → IsRefusalOf (File name 0 rule) fault → IsJudged uses name m (Err fault)
+judged_by uses name m rule (e.Refused refusal) broken is = (rule, broken, is)
+judged_by uses name m rule (e.ReadFault file) broken is = absurd is
+judged_by uses name m rule e.NoMemory broken is = tt

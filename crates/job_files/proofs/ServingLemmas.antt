@@ -19,8 +19,8 @@ use Rattle.job_files.specs.declared.uses.Use.TheVariants as by
 use Rattle.job_files.specs.declared.serving.Loaded.{Loaded}
 use Rattle.job_files.specs.Uses.{file_of, is_of, mentioned}
 use Rattle.job_files.specs.Serving.{Beside, IsServedSoFar, IsFit, IsFitFor, IsServed, Serves, beside_first, is_known}
-use Rattle.format_model.specs.Checks.{first_of, has_sizes}
-use Rattle.job_files.specs.FileOrder.{IsForUse, IsOfUse, LoadsUses, Refused, Suits, broken_in, broken_rule, first_broken, found, has, judged, served, stop_of, stops, weight_after}
+use Rattle.format_model.specs.Checks.{first_of, has_sizes, sizes_rule}
+use Rattle.job_files.specs.FileOrder.{IsForUse, IsOfUse, LoadsUses, Refused, Suits, astray_rule, broken_in, broken_rule, first_broken, found, has, judged, served, stop_of, stops, weight_after}
 use Rattle.job_files.proofs.MentionLemmas.{around, mentioned_again, mentioned_first}
 use Rattle.job_files.proofs.WeightLemmas.{stops_at, weight_more}
 
@@ -47,7 +47,7 @@ beside_at P (v ∷ uses) (n ∷ ms) (suc k) u m beside at there = beside_at P us
 first_is : (P : Use → Matrix → Type 0) (uses : List Use) (ms : List Matrix) (name : List ℕ) (m : Matrix) (first : Option ℕ) → Beside P uses ms → position (is_of name) uses ≡ first → beside_first ms first ≡ Some m → (u : Use) × ((file_of u) ≡ name) × P u m
 first_is P uses ms name m None beside at there = absurd (none_some m there)
 first_is P uses ms name m (Some k) beside at there =
-    let none : Use = by.Array [] 0 0 in
+    let none : Use = by.Order [] 0 in
     let p = position-Some (is_of name) uses k none at in
     (get_or uses k none, (bytes_eq-Decides (file_of (get_or uses k none)) name).0 p.1, beside_at P uses ms k (get_or uses k none) m beside (slice_get-get_or uses k none p.0) there)
 
@@ -166,7 +166,8 @@ none_first (Some rule) two is = absurd cc
 
 -- a matrix that breaks no rule in a use suits it
 suits : (m : Matrix) (u : Use) → broken_rule m u ≡ None → Suits u m
-suits m (by.Array file rows cols) is = at (has_sizes rows cols m) refl is
+suits m (by.Order file rows) is = is
+suits m (by.Array file rows cols diagonals) is = at (has_sizes rows cols m) refl (none_first (sizes_rule rows cols m) (astray_rule diagonals m) is).0
   where
     at : (same : Bool) → has_sizes rows cols m ≡ same → (if same then None else Some F1) ≡ None → (m.rows ≡ rows) × (m.cols ≡ cols)
     at true both is = let parts = and_parts (m.rows == rows) (m.cols == cols) both in ((Decides-eqb m.rows rows).0 parts.0, (Decides-eqb m.cols cols).0 parts.1)

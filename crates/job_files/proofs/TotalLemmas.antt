@@ -1,5 +1,5 @@
 -- The weight after all files, use by use.
-use Rattle.std.proofs.Common.{◌≡◌, ℕ, ◌+◌, ◌*◌, ◌≤◌, Bool, true, false, ◌&&◌, not, cond, nat_lt, if◌then◌else◌, List, [], ◌∷◌, ◌++◌, length, Option, Some, None, Result, Ok, Err, filter, refl, sym, ap, ◌∙◌, subst, arith}
+use Rattle.std.proofs.Common.{◌≡◌, ℕ, ◌+◌, ◌*◌, ◌≤◌, Bool, true, false, ◌&&◌, not, cond, nat_lt, if◌then◌else◌, List, [], ◌∷◌, ◌++◌, length, ℤ, Option, Some, None, Result, Ok, Err, filter, refl, sym, ap, ◌∙◌, subst, arith}
 use Rattle.std.proofs.Math.Nat.{zero-add}
 use Rattle.std.specs.List.{count_by, sum_by}
 use Rattle.std.specs.Str.{bytes_eq}
@@ -8,6 +8,7 @@ use Rattle.std.proofs.lemmas.Bool.Decides.{same_from_decides}
 use Rattle.std.proofs.lemmas.List.Sums.{sum_by-cons}
 use Rattle.std.proofs.lemmas.Slice.Eq.{bytes_eq-Decides}
 use Rattle.bern_base.specs.declared.job.ArrayDecl.{ArrayDecl}
+use Rattle.bern_base.specs.declared.job.FormatDecl.{FormatDecl}
 use Rattle.bern_base.specs.declared.matrix.Matrix.{Matrix}
 use Rattle.bern_base.specs.declared.refusal.Rule.{Rule}
 use Rattle.bern_base.specs.declared.refusal.Rule.TheVariants.{F7}
@@ -17,7 +18,7 @@ use Rattle.bern_base.specs.declared.limits.TheConstants.{MOST_WEIGHT}
 use Rattle.mm_profile.specs.Profile.{Fault, mm, and_then}
 use Rattle.job_files.specs.declared.uses.Use.{Use}
 use Rattle.job_files.specs.declared.uses.Use.TheVariants as by
-use Rattle.job_files.specs.Uses.{entries_from, entries_in, entries_of, entries_read, file_of, is_of, matrices_from, matrix_from, mentioned, use_by, uses_of}
+use Rattle.job_files.specs.Uses.{entries_from, entries_in, entries_of, entries_read, file_of, is_of, matrices_from, matrix_from, mentioned, diagonals_of, file_use, order_of, order_use, uses_of}
 use Rattle.job_files.specs.FileOrder.{Refused, Stop, added, first_broken, found, has, judged, stop_of, stop_of_uses, weight_after, weight_with, within_limit}
 use Rattle.job_files.proofs.MentionLemmas.{all_new, filter_filter, is_new, is_other}
 
@@ -151,30 +152,43 @@ total files uses [] weight now later =
 total files uses (name ∷ names) weight now later =
     total_at files uses weight now name names (weight_with files uses weight name) refl (λ sum later. total files uses names sum now later) later
 
--- the matrices of the arrays have what the files of their uses add
-of_array : (files : Files) (array : ArrayDecl) (uses : List Use) (file : Option (List ℕ)) (sum : ℕ) → sum ≡ by_use (entries files) (is_new []) uses →
-    length (entries_from (entries_in files) file) + sum ≡ by_use (entries files) (is_new []) (use_by array file ++ uses)
-of_array files array uses None sum is = omega (arith, is)
-of_array files array uses (Some file) sum is =
-    ap (λ s. entries files file + s) is ∙ sym (sum_by-cons (λ w. cond (is_new [] (file_of w)) (entries files (file_of w)) 0) (by.Array file array.rows array.cols) uses)
+-- what an order of rows adds is added to what the other uses add
+of_order : (files : Files) (array : ArrayDecl) (order : Option (List ℕ)) (own uses : List Use) → by_use (entries files) (is_new []) (own ++ uses) ≤ by_use (entries files) (is_new []) ((order_use array order ++ own) ++ uses)
+of_order files array None own uses = omega arith
+of_order files array (Some file) own uses =
+    let sum = sum_by-cons (λ w. cond (is_new [] (file_of w)) (entries files (file_of w)) 0) (by.Order file array.rows) (own ++ uses) in omega (arith, sum)
 
-of_arrays : (files : Files) (arrays : List ArrayDecl) → sum_by (λ m. length m.entries) (matrices_from (entries_in files) arrays) ≡ by_use (entries files) (is_new []) (uses_of arrays)
-of_arrays files [] = refl
-of_arrays files (array ∷ arrays) =
-    sum_by-cons (λ m. length m.entries) (matrix_from (entries_in files) array) (matrices_from (entries_in files) arrays)
-    ∙ of_array files array (uses_of arrays) array.file (sum_by (λ m. length m.entries) (matrices_from (entries_in files) arrays)) (of_arrays files arrays)
+-- the matrices of the arrays have no more than what the files of their uses add
+of_array : (files : Files) (array : ArrayDecl) (diagonals : Option (List ℤ)) (uses : List Use) (file : Option (List ℕ)) (sum : ℕ) → sum ≤ by_use (entries files) (is_new []) uses →
+    length (entries_from (entries_in files) file) + sum ≤ by_use (entries files) (is_new []) (file_use array diagonals file ++ uses)
+of_array files array diagonals uses None sum is = omega (arith, is)
+of_array files array diagonals uses (Some file) sum is =
+    let all = sum_by-cons (λ w. cond (is_new [] (file_of w)) (entries files (file_of w)) 0) (by.Array file array.rows array.cols diagonals) uses in omega (arith, is, all)
 
-pub arrays_keep : (files : Files) (weight : ℕ) (arrays : List ArrayDecl) → weight ≤ MOST_WEIGHT → stop_of_uses files weight (uses_of arrays) ≡ None →
+of_arrays : (files : Files) (formats : List FormatDecl) (arrays : List ArrayDecl) → sum_by (λ m. length m.entries) (matrices_from (entries_in files) arrays) ≤ by_use (entries files) (is_new []) (uses_of formats arrays)
+of_arrays files formats [] = omega arith
+of_arrays files formats (array ∷ arrays) =
+    let rest : ℕ = sum_by (λ m. length m.entries) (matrices_from (entries_in files) arrays) in
+    let own : List Use = file_use array (diagonals_of formats array) array.file in
+    let all = sum_by-cons (λ m. length m.entries) (matrix_from (entries_in files) array) (matrices_from (entries_in files) arrays) in
+    let here = of_array files array (diagonals_of formats array) (uses_of formats arrays) array.file rest (of_arrays files formats arrays) in
+    let order = of_order files array (order_of formats array) own (uses_of formats arrays) in
+    omega (arith, all, here, order)
+
+pub arrays_keep : (files : Files) (weight : ℕ) (formats : List FormatDecl) (arrays : List ArrayDecl) → weight ≤ MOST_WEIGHT → stop_of_uses files weight (uses_of formats arrays) ≡ None →
     weight + sum_by (λ m. length m.entries) (matrices_from (entries_in files) arrays) ≤ MOST_WEIGHT
-arrays_keep files weight arrays light fine = at (weight_after files uses weight (mentioned uses)) refl fine
+arrays_keep files weight formats arrays light fine = at (weight_after files uses weight (mentioned uses)) refl fine
   where
     uses : List Use
-    uses = uses_of arrays
+    uses = uses_of formats arrays
 
     at : (last : Result ℕ Stop) → weight_after files uses weight (mentioned uses) ≡ last → stop_of last ≡ None → weight + sum_by (λ m. length m.entries) (matrices_from (entries_in files) arrays) ≤ MOST_WEIGHT
     at (Ok now) is fine =
         let all = total files uses (mentioned uses) weight now is in
-        let sums : sum_by (by_file (entries files) uses) (mentioned uses) ≡ sum_by (λ m. length m.entries) (matrices_from (entries_in files) arrays) =
-        ap (sum_by (by_file (entries files) uses)) (all_new (mentioned uses)) ∙ by_files (entries files) uses (is_new []) ∙ sym (of_arrays files arrays) in
-        subst (λ s. weight + s ≤ MOST_WEIGHT) sums (subst (λ n. n ≤ MOST_WEIGHT) all.sum (all.light light))
+        let sums : sum_by (by_file (entries files) uses) (mentioned uses) ≡ by_use (entries files) (is_new []) uses =
+        ap (sum_by (by_file (entries files) uses)) (all_new (mentioned uses)) ∙ by_files (entries files) uses (is_new []) in
+        let most = all.light light in
+        let sum = all.sum in
+        let few = of_arrays files formats arrays in
+        omega (arith, sums, most, sum, few)
     at (Err stop) is fine = absurd cc

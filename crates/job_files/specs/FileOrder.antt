@@ -1,6 +1,6 @@
 -- The order of a job's files and of the F rules: the files by first mention, each with the rules of its uses and then the weight.
 -- It ends with the matrix of each use, or stops at the first refusal or at a file that is not there.
-use Rattle.std.specs.Prelude.{◌≡◌, ℕ, ◌+◌, ◌*◌, ◌≤◌, nat_lt, if◌then◌else◌, List, [], ◌∷◌, ◌++◌, length, Option, Some, None, Result, Ok, Err, ⊤}
+use Rattle.std.specs.Prelude.{◌≡◌, ℕ, ◌+◌, ◌*◌, ◌≤◌, nat_lt, if◌then◌else◌, List, [], ◌∷◌, ◌++◌, length, ℤ, Option, Some, None, Result, Ok, Err, ⊤}
 use Rattle.std.specs.List.{AllZip, count_by}
 use Rattle.bern_base.specs.Matrix.{IsMatrix}
 use Rattle.bern_base.specs.declared.job.Checked.{Checked}
@@ -11,7 +11,7 @@ use Rattle.bern_base.specs.declared.refusal.Rule.TheVariants.{F7}
 use Rattle.bern_base.specs.declared.refusal.Refusal.{Refusal}
 use Rattle.bern_base.specs.declared.refusal.Refusal.TheVariants.{File}
 use Rattle.bern_ports.specs.Files.{Files, bytes_of}
-use Rattle.format_model.specs.Checks.{first_of, sizes_rule}
+use Rattle.format_model.specs.Checks.{diagonals_rule, first_of, order_rule, sizes_rule}
 use Rattle.mm_profile.specs.Profile.{Fault, mm, and_then}
 use Rattle.job_files.specs.Uses.{entries_in, file_of, is_of, matrices_from, mentioned, uses_of}
 use Rattle.job_files.specs.Weight.{weight_of}
@@ -25,9 +25,16 @@ pub data Stop : Type 0 where
   Refused : (refusal : Refusal) → Stop
   Missing : (name : List ℕ) → Stop
 
--- the rule that a file's matrix breaks in a use; for an array it is F1: its rows and columns are the array's
+-- rule F2 is that of arrays with listed diagonals
+abbrev pub astray_rule : Option (List ℤ) → Matrix → Option Rule
+astray_rule None m = None
+astray_rule (Some offsets) m = diagonals_rule offsets m
+
+-- the first rule that a file's matrix breaks in a use: for an order of rows F1 and F3, it is one column that lists each row once;
+-- for an array F1, its rows and columns are the array's, and F2
 abbrev pub broken_rule : Matrix → Use → Option Rule
-broken_rule m (by.Array file rows cols) = sizes_rule rows cols m
+broken_rule m (by.Order file rows) = order_rule rows m
+broken_rule m (by.Array file rows cols diagonals) = first_of (sizes_rule rows cols m) (astray_rule diagonals m)
 
 -- a use of another file asks nothing
 abbrev pub broken_in : List ℕ → Matrix → Use → Option Rule
@@ -91,7 +98,7 @@ stop_of_uses files weight uses = stops files uses weight (mentioned uses)
 abbrev pub stop_of_files : Files → List ℕ → ℕ → Checked → Option Stop
 stop_of_files files name ranks job =
     if nat_lt MOST_WEIGHT (weight_of job ranks) then Some (Refused (File name 0 F7))
-    else stop_of_uses files (weight_of job ranks) (uses_of job.arrays)
+    else stop_of_uses files (weight_of job ranks) (uses_of job.formats job.arrays)
 
 -- a file of this name is reached: it is that of a use, and no file that is mentioned before stops the loading
 pub record ReachesUse (files : Files) (weight : ℕ) (uses : List Use) (name : List ℕ) : Type 0 where
@@ -103,11 +110,12 @@ pub record ReachesUse (files : Files) (weight : ℕ) (uses : List Use) (name : L
 -- a file of this name is reached by the order of a job's files
 pub record Reaches (files : Files) (ranks : ℕ) (job : Checked) (name : List ℕ) : Type 0 where
   pub light : weight_of job ranks ≤ MOST_WEIGHT
-  pub reached : ReachesUse files (weight_of job ranks) (uses_of job.arrays) name
+  pub reached : ReachesUse files (weight_of job ranks) (uses_of job.formats job.arrays) name
 
--- what a use asks of a matrix, beside that it is one
+-- what a use asks of a matrix, beside that it is one: that it lists each row once, or that it has an array's sizes
 abbrev pub Suits : Use → Matrix → Type 0
-Suits (by.Array file rows cols) m = (m.rows ≡ rows) × (m.cols ≡ cols)
+Suits (by.Order file rows) m = order_rule rows m ≡ None
+Suits (by.Array file rows cols diagonals) m = (m.rows ≡ rows) × (m.cols ≡ cols)
 
 pub record IsForUse (u : Use) (m : Matrix) : Type 0 where
   pub matrix : IsMatrix m

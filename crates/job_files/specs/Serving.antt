@@ -33,10 +33,12 @@ IsFitFor uses u m = IsFit uses (file_of u) m
 abbrev pub IsServed : Files → List Use → Use → Matrix → Type 0
 IsServed files uses u m = served files uses (file_of u) ≡ Ok m
 
--- the matrix, where it breaks no rule in the uses of the file, or the first rule that it breaks
+-- the matrix, where it breaks no rule in the uses of the file, or the first rule that it breaks; want of memory is free
 abbrev pub IsJudged : List Use → List ℕ → Matrix → Result Matrix LoadError → Type 0
 IsJudged uses name matrix (Ok m) = (m ≡ matrix) × (first_broken name m uses ≡ None)
-IsJudged uses name matrix (Err fault) = (rule : Rule) × (first_broken name matrix uses ≡ Some rule) × IsRefusalOf (File name 0 rule) fault
+IsJudged uses name matrix (Err (e.Refused refusal)) = (rule : Rule) × (first_broken name matrix uses ≡ Some rule) × (refusal ≡ File name 0 rule)
+IsJudged uses name matrix (Err (e.ReadFault file)) = ⊥
+IsJudged uses name matrix (Err e.NoMemory) = ⊤
 
 -- the matrix, and the weight with its file; or rule F7
 abbrev pub IsWeighed : List Use → ℕ → List ℕ → Matrix → Result Loaded LoadError → Type 0

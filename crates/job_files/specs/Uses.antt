@@ -1,18 +1,22 @@
 -- The uses of a job's files, the files by first mention, and what the arrays of a job begin with: zeros, or the matrix of a file.
-use Rattle.std.specs.Prelude.{◌≡◌, ℕ, Bool, not, List, [], ◌∷◌, Option, Some, None, Result, Ok, Err, map}
+use Rattle.std.specs.Prelude.{◌≡◌, ℕ, Bool, not, List, [], ◌∷◌, ◌++◌, ℤ, Option, Some, None, Result, Ok, Err, map, slice_get}
 use Rattle.std.specs.List.{filter, flat_map}
 use Rattle.std.specs.Str.{bytes_eq}
 use Rattle.bern_base.specs.Matrix.{IsMatrix}
 use Rattle.bern_base.specs.declared.job.ArrayDecl.{ArrayDecl}
+use Rattle.bern_base.specs.declared.job.FormatDecl.{FormatDecl}
 use Rattle.bern_base.specs.declared.matrix.Entry.{Entry}
 use Rattle.bern_base.specs.declared.matrix.Matrix.{Matrix}
+use Rattle.bern_base.specs.declared.shape.Shape.{Shape}
+use Rattle.bern_base.specs.declared.shape.Shape.TheVariants as shape
 use Rattle.bern_ports.specs.Files.{Files, bytes_of}
 use Rattle.mm_profile.specs.Profile.{Fault, mm}
 use Rattle.job_files.specs.declared.uses.Use.{Use}
 use Rattle.job_files.specs.declared.uses.Use.TheVariants as by
 
 abbrev pub file_of : Use → List ℕ
-file_of (by.Array file rows cols) = file
+file_of (by.Order file rows) = file
+file_of (by.Array file rows cols diagonals) = file
 
 abbrev pub is_of : List ℕ → Use → Bool
 is_of name u = bytes_eq (file_of u) name
@@ -22,14 +26,48 @@ abbrev pub mentioned : List Use → List (List ℕ)
 mentioned [] = []
 mentioned (u ∷ uses) = file_of u ∷ filter (λ name. not (is_of name u)) (mentioned uses)
 
+-- the offsets of the diagonals that a diagonal format lists
+abbrev pub listed_in : Shape → Option (List ℤ)
+listed_in (shape.Diagonal offsets) = Some offsets
+listed_in other = None
+
+-- the file that a permute format names
+abbrev pub named_in : Shape → Option (List ℕ)
+named_in (shape.Permute file) = Some file
+named_in other = None
+
+abbrev pub listed_by : Option FormatDecl → Option (List ℤ)
+listed_by None = None
+listed_by (Some format) = listed_in format.shape
+
+abbrev pub named_by : Option FormatDecl → Option (List ℕ)
+named_by None = None
+named_by (Some format) = named_in format.shape
+
+-- the listed diagonals of an array's format, and the file that has the order of its rows
+abbrev pub diagonals_of : List FormatDecl → ArrayDecl → Option (List ℤ)
+diagonals_of formats array = listed_by (slice_get formats array.format)
+
+abbrev pub order_of : List FormatDecl → ArrayDecl → Option (List ℕ)
+order_of formats array = named_by (slice_get formats array.format)
+
+-- the use of a file for the order of an array's rows
+abbrev pub order_use : ArrayDecl → Option (List ℕ) → List Use
+order_use array None = []
+order_use array (Some file) = by.Order file array.rows ∷ []
+
 -- the use of a file by an array that is read from it
-abbrev pub use_by : ArrayDecl → Option (List ℕ) → List Use
-use_by array None = []
-use_by array (Some file) = by.Array file array.rows array.cols ∷ []
+abbrev pub file_use : ArrayDecl → Option (List ℤ) → Option (List ℕ) → List Use
+file_use array diagonals None = []
+file_use array diagonals (Some file) = by.Array file array.rows array.cols diagonals ∷ []
+
+-- the uses of files by an array: the file that its format names is mentioned right before its own
+abbrev pub uses_by : List FormatDecl → ArrayDecl → List Use
+uses_by formats array = order_use array (order_of formats array) ++ file_use array (diagonals_of formats array) array.file
 
 -- the uses of files by the arrays of a job, in their order
-abbrev pub uses_of : List ArrayDecl → List Use
-uses_of arrays = flat_map (λ array. use_by array array.file) arrays
+abbrev pub uses_of : List FormatDecl → List ArrayDecl → List Use
+uses_of formats arrays = flat_map (uses_by formats) arrays
 
 -- the entries of a file's matrix; where it has none there are no entries
 abbrev pub entries_of : Result Matrix Fault → List Entry
@@ -65,19 +103,24 @@ matrix_from files array = with_entries array (entries_from files array.file)
 abbrev pub matrices_from : (List ℕ → List Entry) → List ArrayDecl → List Matrix
 matrices_from files arrays = map (matrix_from files) arrays
 
--- the matrix of an array: the next one where it is read from a file, and one without entries else
+-- the matrix of an array: of those that are left the next one where it is read from a file, and one without entries else
 abbrev pub taken : ArrayDecl → Option (List ℕ) → List Matrix → Matrix
 taken array None ms = with_entries array []
 taken array (Some file) [] = with_entries array []
 taken array (Some file) (m ∷ ms) = m
 
--- those that are left for the other arrays
+-- those that are left after the one of a file
 abbrev pub left_by : Option (List ℕ) → List Matrix → List Matrix
 left_by None ms = ms
 left_by (Some file) [] = []
 left_by (Some file) (m ∷ ms) = ms
 
--- a matrix for each array, from those of the arrays that are read from a file
-abbrev pub spread : List ArrayDecl → List Matrix → List Matrix
-spread [] ms = []
-spread (array ∷ arrays) ms = taken array array.file ms ∷ spread arrays (left_by array.file ms)
+-- those that are left after the order of an array's rows
+abbrev pub after_order : List FormatDecl → ArrayDecl → List Matrix → List Matrix
+after_order formats array ms = left_by (order_of formats array) ms
+
+-- a matrix for each array, from those of all uses; the orders of rows are left out
+abbrev pub spread : List FormatDecl → List ArrayDecl → List Matrix → List Matrix
+spread formats [] ms = []
+spread formats (array ∷ arrays) ms =
+    taken array array.file (after_order formats array ms) ∷ spread formats arrays (left_by array.file (after_order formats array ms))

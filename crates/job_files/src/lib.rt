@@ -9,6 +9,7 @@ mod format_weights;
 mod laws;
 mod load_error;
 mod matrix_file;
+mod mentions;
 mod reading;
 mod serving;
 mod uses;

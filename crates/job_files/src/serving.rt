@@ -1,6 +1,7 @@
 ghost use Rattle.std.specs.Prelude.{◌≡◌, ◌≤◌, IfOk, IfSome, position};
 ghost use Rattle.std.specs.List.{AllZip};
 ghost use Rattle.std.specs.Option.{option_copied};
+ghost use Rattle.bern_base.specs.Matrix.{IsMatrix};
 ghost use Rattle.bern_ports.specs.Frames.{KeepsShelf, shelf_state};
 ghost use Rattle.job_files.specs.Answers.{HasFaultCause};
 ghost use Rattle.job_files.specs.FileOrder.{IsForUse, LoadsUses};
@@ -135,7 +136,8 @@ fn taken(
     weight: u64,
     matrix: Matrix,
 ) -> Result<Loaded, LoadError>
-    requires { weight ≤ MOST_WEIGHT }
+    requires light { weight ≤ MOST_WEIGHT }
+    requires matrix { IsMatrix matrix }
     ensures { IsTaken uses.now weight file.now matrix result }
 {
     match judged(alloc, uses, file, matrix) {
@@ -151,11 +153,13 @@ fn judged(
     file: &[u8],
     matrix: Matrix,
 ) -> Result<Matrix, LoadError>
+    requires { IsMatrix matrix }
     ensures { IsJudged uses.now file.now matrix result }
 {
-    match first_broken(uses, file, &matrix) {
-        None => Ok(matrix),
-        Some(rule) => Err(refusal(alloc, file, 0, rule)),
+    match first_broken(alloc, uses, file, &matrix) {
+        Ok(None) => Ok(matrix),
+        Ok(Some(rule)) => Err(refusal(alloc, file, 0, rule)),
+        Err(NoMemory) => Err(LoadError::NoMemory),
     }
 }
 

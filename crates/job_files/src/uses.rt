@@ -1,16 +1,29 @@
-ghost use Rattle.std.specs.Prelude.{◌≡◌, position};
+ghost use Rattle.std.specs.Prelude.{◌≡◌, position, IfOk};
 ghost use Rattle.std.specs.List.{count_by};
-ghost use Rattle.job_files.specs.FileOrder.{broken_rule, first_broken};
+ghost use Rattle.bern_base.specs.Matrix.{IsMatrix};
+ghost use Rattle.format_model.specs.Checks.{first_of, order_rule, sizes_rule};
+ghost use Rattle.job_files.specs.FileOrder.{astray_rule, broken_in, broken_rule, first_broken};
 ghost use Rattle.job_files.specs.Uses.{file_of, is_of};
 
-use bern_base::{Items, Matrix, Rule, Text};
-use formats::check_sizes;
+use bern_base::{Items, Matrix, NoMemory, Rule, Text};
+use formats::{OrderError, check_astray, check_order, check_sizes};
+use std::alloc::Global;
 
 /// A use of a file: what is read from it.
 #[derive(Debug, Drop)]
 pub enum Use {
-    /// An array of so many rows and columns.
-    Array { file: Text, rows: u32, cols: u32 },
+    /// The order of so many rows, for an array of a permute format.
+    Order {
+        file: Text,
+        rows: u32,
+    },
+    /// An array of so many rows and columns; of a diagonal format with the offsets of its diagonals.
+    Array {
+        file: Text,
+        rows: u32,
+        cols: u32,
+        diagonals: Option<Items<i64>>,
+    },
 }
 
 impl Use {
@@ -19,17 +32,72 @@ impl Use {
         ensures { result.now ≡ file_of self.now }
     {
         match self {
+            Use::Order { file, .. } => file,
             Use::Array { file, .. } => file,
         }
     }
 
-    /// The rule that the file's matrix breaks in this use. For an array it is F1: its rows and columns are the array's.
-    fn broken_rule(&self, matrix: &Matrix) -> Option<Rule>
-        ensures { result ≡ broken_rule matrix.now self.now }
+    /// The first rule that the file's matrix breaks in this use: F1 and F3 for an order of rows, F1 and F2 for an array.
+    fn broken_rule(&self, alloc: Global, matrix: &Matrix) -> Result<Option<Rule>, NoMemory>
+        requires { IsMatrix matrix.now }
+        ensures { IfOk result (λ rule. rule ≡ broken_rule matrix.now self.now) }
     {
         match self {
-            Use::Array { rows, cols, .. } => check_sizes(*rows, *cols, matrix).err(),
+            Use::Order { rows, .. } => broken_by_order(alloc, *rows, matrix),
+            Use::Array {
+                rows,
+                cols,
+                diagonals,
+                ..
+            } => Ok(broken_by_array(*rows, *cols, diagonals, matrix)),
         }
+    }
+
+    /// The same where the use is of that file; a use of another file asks nothing.
+    fn broken_in(
+        &self,
+        alloc: Global,
+        file: &[u8],
+        matrix: &Matrix,
+    ) -> Result<Option<Rule>, NoMemory>
+        requires { IsMatrix matrix.now }
+        ensures { IfOk result (λ rule. rule ≡ broken_in file.now matrix.now self.now) }
+    {
+        if is_of(self, file) {
+            self.broken_rule(alloc, matrix)
+        } else {
+            Ok(None)
+        }
+    }
+}
+
+/// F1 where the matrix is not one column of so many rows, else F3 where it does not list each row once.
+fn broken_by_order(alloc: Global, rows: u32, matrix: &Matrix) -> Result<Option<Rule>, NoMemory>
+    requires { IsMatrix matrix.now }
+    ensures { IfOk result (λ rule. rule ≡ order_rule rows matrix.now) }
+{
+    match check_order(alloc, rows, matrix) {
+        Ok(_) => Ok(None),
+        Err(OrderError::Broken(rule)) => Ok(Some(rule)),
+        Err(OrderError::NoMemory) => Err(NoMemory),
+    }
+}
+
+/// F1 where the matrix has other sizes, else F2 where it has a value off the listed diagonals.
+fn broken_by_array(
+    rows: u32,
+    cols: u32,
+    diagonals: &Option<Items<i64>>,
+    matrix: &Matrix,
+) -> Option<Rule>
+    ensures { result ≡ first_of (sizes_rule rows cols matrix.now) (astray_rule diagonals.now matrix.now) }
+{
+    match check_sizes(rows, cols, matrix) {
+        Ok(()) => match diagonals {
+            None => None,
+            Some(offsets) => check_astray(offsets.as_slice(), matrix).err(),
+        },
+        Err(rule) => Some(rule),
     }
 }
 
@@ -62,15 +130,21 @@ pub fn count_uses(uses: &Items<Use>, file: &[u8]) -> usize
 }
 
 /// The first rule that a file's matrix breaks, over the uses of the file in their order.
-pub fn first_broken(uses: &Items<Use>, file: &[u8], matrix: &Matrix) -> Option<Rule>
-    ensures { result ≡ first_broken file.now matrix.now uses.now }
+pub fn first_broken(
+    alloc: Global,
+    uses: &Items<Use>,
+    file: &[u8],
+    matrix: &Matrix,
+) -> Result<Option<Rule>, NoMemory>
+    requires { IsMatrix matrix.now }
+    ensures { IfOk result (λ rule. rule ≡ first_broken file.now matrix.now uses.now) }
 {
     'uses: for wanted in uses.as_slice() {
-        if is_of(wanted, file) {
-            if let Some(rule) = wanted.broken_rule(matrix) {
-                return Some(rule);
-            }
+        match wanted.broken_in(alloc, file, matrix) {
+            Ok(None) => {}
+            Ok(Some(rule)) => return Ok(Some(rule)),
+            Err(NoMemory) => return Err(NoMemory),
         }
     }
-    None
+    Ok(None)
 }

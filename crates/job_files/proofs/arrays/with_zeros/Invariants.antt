@@ -8,6 +8,6 @@ use Rattle.job_files.proofs.arrays.with_zeros.Given as goal
 
 abbrev pub invariant-loop-array : goal.invariant-loop-array
 invariant-loop-array l =
-    (l.matrices ++ spread (drop l.array-index l.arrays) (into_iter_items l.loaded) ≡ spread l.arrays l.fn.loaded)
-    × AllZip IsForUse (uses_of (drop l.array-index l.arrays)) (into_iter_items l.loaded)
+    (l.matrices ++ spread l.formats (drop l.array-index l.arrays) (into_iter_items l.loaded) ≡ spread l.formats l.arrays l.fn.loaded)
+    × AllZip IsForUse (uses_of l.formats (drop l.array-index l.arrays)) (into_iter_items l.loaded)
     × (into_iter_len l.loaded ≡ length (into_iter_items l.loaded))
