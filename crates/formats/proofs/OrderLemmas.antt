@@ -15,7 +15,8 @@ use Rattle.bern_base.specs.Matrix.{element, values_of}
 use Rattle.bern_base.specs.declared.matrix.Matrix.{Matrix}
 use Rattle.bern_base.specs.declared.refusal.Rule.TheVariants.{F1, F3}
 use Rattle.bern_base.proofs.SumLemmas.{All-range, sum_by-map, sum_by-swap, sum_by_agree, sum_by_none, sum_by_one}
-use Rattle.format_model.specs.Checks.{has_sizes, is_listed_once, lists_each_row, listing_rule, order_in, sizes_rule}
+use Rattle.format_model.specs.Checks.{has_sizes, sizes_rule}
+use Rattle.formats.specs.FileRules.{is_listed_once, lists_each_row, listing_rule, order_in}
 
 -- a value names a row
 abbrev pub IsNumber : ℕ → ℕ → Type 0

@@ -3,3 +3,4 @@ pub use Rattle.format_model.specs.Estimates
 pub mod AnyStores
 pub mod Builds
 pub mod Orders
+pub mod FileRules

@@ -3,7 +3,7 @@ use Rattle.std.specs.Prelude.{◌≡◌, ℕ, List, Some, None, Ok, Err}
 use Rattle.std.specs.declared.result.Result.{Result}
 use Rattle.bern_base.specs.Matrix.{values_of}
 use Rattle.bern_base.specs.declared.matrix.Matrix.{Matrix}
-use Rattle.format_model.specs.Checks.{listing_rule, order_in, order_rule}
+use Rattle.formats.specs.FileRules.{listing_rule, order_in, order_rule}
 use Rattle.formats.specs.declared.order.OrderError.{OrderError}
 use Rattle.formats.specs.declared.order.OrderError.TheVariants as e
 

@@ -1,7 +1,8 @@
 ghost use Rattle.std.specs.Prelude.{◌≡◌};
 ghost use Rattle.std.specs.List.{list_any};
 ghost use Rattle.std.specs.Result.{result_err};
-ghost use Rattle.format_model.specs.Checks.{diagonals_rule, is_astray, shape_rule, sizes_rule};
+ghost use Rattle.format_model.specs.Checks.{is_astray, shape_rule, sizes_rule};
+ghost use Rattle.formats.specs.FileRules.{diagonals_rule};
 ghost use Rattle.format_model.specs.Stored.{is_on_diagonal};
 
 use bern_base::{ArrayDecl, Entry, FormatDecl, Matrix, Rule, Shape};

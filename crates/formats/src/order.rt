@@ -2,7 +2,7 @@ ghost use Rattle.std.specs.Prelude.{◌≡◌, ◌+◌, ◌-◌, ◌≤◌, leng
 ghost use Rattle.std.specs.List.{range_with_len};
 ghost use Rattle.std.specs.List.Sorted.{IsPermutation};
 ghost use Rattle.bern_base.specs.Matrix.{IsMatrix, values_of};
-ghost use Rattle.format_model.specs.Checks.{order_in};
+ghost use Rattle.formats.specs.FileRules.{order_in};
 ghost use Rattle.formats.specs.Orders.{IsListed, IsOrder};
 
 use crate::checks::check_sizes;

@@ -11,7 +11,8 @@ use Rattle.bern_base.specs.declared.refusal.Rule.TheVariants.{F7}
 use Rattle.bern_base.specs.declared.refusal.Refusal.{Refusal}
 use Rattle.bern_base.specs.declared.refusal.Refusal.TheVariants.{File}
 use Rattle.bern_ports.specs.Files.{Files, bytes_of}
-use Rattle.format_model.specs.Checks.{diagonals_rule, first_of, order_rule, sizes_rule}
+use Rattle.format_model.specs.Checks.{first_of, sizes_rule}
+use Rattle.formats.specs.FileRules.{diagonals_rule, order_rule}
 use Rattle.mm_profile.specs.Profile.{Fault, mm, and_then}
 use Rattle.job_files.specs.Uses.{entries_in, file_of, is_of, matrices_from, mentioned, uses_of}
 use Rattle.job_files.specs.Weight.{weight_of}

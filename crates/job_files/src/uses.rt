@@ -1,7 +1,8 @@
 ghost use Rattle.std.specs.Prelude.{◌≡◌, position, IfOk};
 ghost use Rattle.std.specs.List.{count_by};
 ghost use Rattle.bern_base.specs.Matrix.{IsMatrix};
-ghost use Rattle.format_model.specs.Checks.{first_of, order_rule, sizes_rule};
+ghost use Rattle.format_model.specs.Checks.{first_of, sizes_rule};
+ghost use Rattle.formats.specs.FileRules.{order_rule};
 ghost use Rattle.job_files.specs.FileOrder.{astray_rule, broken_in, broken_rule, first_broken};
 ghost use Rattle.job_files.specs.Uses.{file_of, is_of};
 

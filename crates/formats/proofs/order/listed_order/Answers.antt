@@ -2,7 +2,7 @@ use Rattle.std.proofs.Common.{◌≡◌, ℕ, ◌+◌, ◌<◌, ◌≤◌, List,
 use Rattle.std.specs.List.{range_with_len}
 use Rattle.std.proofs.lemmas.List.{get_or_read}
 use Rattle.std.specs.List.Sorted.{IsPermutation}
-use Rattle.format_model.specs.Checks.{listing_rule, order_in}
+use Rattle.formats.specs.FileRules.{listing_rule, order_in}
 use Rattle.formats.proofs.OrderLemmas.{AreListed, IsNumber, all_listed, listed_more, named_twice, no_number, numbers_more, order_more}
 use Rattle.formats.proofs.order.listed_order.Goals as goal
 

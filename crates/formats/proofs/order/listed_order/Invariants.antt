@@ -1,6 +1,6 @@
 -- The values so far name rows, each of them once and those that are marked; the order has them.
 use Rattle.std.proofs.Common.{◌≡◌, ℕ, ◌<◌, length, take, get_or}
-use Rattle.format_model.specs.Checks.{order_in}
+use Rattle.formats.specs.FileRules.{order_in}
 use Rattle.formats.proofs.OrderLemmas.{AreListed, IsNumber}
 use Rattle.formats.proofs.order.listed_order.Given as goal
 
