@@ -1,2 +1,3 @@
 pub mod ReadableLemmas
 pub mod AnswerLemmas
+pub mod OffsetLemmas

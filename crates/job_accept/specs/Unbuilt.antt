@@ -8,18 +8,15 @@ use Rattle.bern_base.specs.declared.raw.Form.TheVariants as form
 use Rattle.bern_base.specs.declared.raw.JobLine.{JobLine}
 use Rattle.bern_base.specs.declared.raw.JobText.{JobText}
 use Rattle.bern_base.specs.declared.raw.RawKind.TheVariants as kind
-use Rattle.bern_base.specs.declared.raw.RawShape.TheVariants as shape
 use Rattle.bern_base.specs.declared.refusal.Rule.{Rule}
 use Rattle.bern_base.specs.declared.refusal.Rule.TheVariants as r
 use Rattle.job_rules.specs.declared.job.CheckError.{CheckError}
 use Rattle.job_rules.specs.First.{Accepts, Refuses}
 use Rattle.job_accept.specs.Front.{IsReadAs, IsTooLong, SaysWhere}
 
--- a place that a file lists, and a format of diagonals or of permuted rows
+-- a place that a file lists
 abbrev pub is_unbuilt : Form → Bool
 is_unbuilt (form.Place name extent (kind.Listed file)) = true
-is_unbuilt (form.Format name (shape.Diagonal offsets)) = true
-is_unbuilt (form.Format name (shape.Permute file)) = true
 is_unbuilt other = false
 
 -- the number of the first line of such a form

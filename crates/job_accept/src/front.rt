@@ -25,8 +25,7 @@ pub fn take_job(alloc: Global, bytes: &[u8]) -> Result<Checked, CheckError>
 
 /// Takes a job as [`take_job`] does, while some forms are not built yet.
 ///
-/// The first line of such a form is refused by U2, which comes right after J2 on its line: a `place` with `listed`, and
-/// a `format` with `diagonal` or `permute`.
+/// The first line of such a form, a `place` with `listed`, is refused by U2, which comes right after J2 on its line.
 pub fn take_built_job(alloc: Global, bytes: &[u8]) -> Result<Checked, CheckError>
     ensures accepted { IfOk result (AcceptsBuilt bytes.now) }
     ensures refused { IfErr result (RefusesBuilt bytes.now) }

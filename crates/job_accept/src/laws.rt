@@ -2,6 +2,7 @@ ghost use Rattle.std.specs.Prelude.{ℕ, List};
 ghost use Rattle.bern_base.specs.declared.job.Checked.{Checked};
 ghost use Rattle.job_model.specs.Accepted.{IsAccepted};
 ghost use Rattle.job_accept.specs.Front.{AcceptsBytes};
+ghost use Rattle.job_accept.specs.Offsets.{OffsetsRise};
 ghost use Rattle.job_accept.specs.Unbuilt.{BuiltBytesHaveOneAnswer};
 
 /// The law that bytes have one answer of [`take_built_job`](crate::take_built_job): one job, or one line and rule, and
@@ -14,4 +15,10 @@ pub fn built_bytes_have_one_answer()
 /// within their limits, and each nest stays inside its arrays. It does nothing.
 pub fn accepted_bytes_keep_the_rules()
     ensures { (bytes : List ℕ) (job : Checked) → AcceptsBytes bytes job → IsAccepted job }
+{}
+
+/// The law that the offsets of each diagonal format rise strictly in what bytes are accepted as: a line with others has no
+/// form. It does nothing.
+pub fn offsets_of_diagonals_rise()
+    ensures { OffsetsRise }
 {}

@@ -3,7 +3,7 @@ ghost use Rattle.job_rules.specs.First.{IsReadableText};
 ghost use Rattle.job_accept.specs.Front.{SaysWhere};
 ghost use Rattle.job_accept.specs.Unbuilt.{is_unbuilt, first_unbuilt, AcceptsForms, RefusesForms};
 
-use bern_base::{Checked, Form, JobLine, JobText, RawKind, RawShape, Rule};
+use bern_base::{Checked, Form, JobLine, JobText, RawKind, Rule};
 use job_rules::{CheckError, check_job};
 use std::alloc::Global;
 
@@ -51,7 +51,6 @@ fn is_unbuilt(form: &Form) -> bool
 {
     match form {
         Form::Place { kind, .. } => matches!(kind, RawKind::Listed(_)),
-        Form::Format { shape, .. } => matches!(shape, RawShape::Diagonal(_) | RawShape::Permute(_)),
         _ => false,
     }
 }

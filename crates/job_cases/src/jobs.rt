@@ -20,23 +20,26 @@ fn the_first_line_that_is_refused_is_told_and_on_one_line_u2(rt: HostRuntime) ->
             b"extent n 3\nplace l n listed owners.txt\n",
             Some((2, Rule::U2)),
         ),
-        (b"format d diagonal -1 0 1\n", Some((1, Rule::U2))),
-        (
-            b"format s permute order.txt row dense > col packed\n",
-            Some((1, Rule::U2)),
-        ),
+        (b"format d diagonal -1 0 1\n", None),
+        (b"format s permute order.txt row dense > col packed\n", None),
         (
             b"\nextent n 3\nformat d diagonal 0\nplace l n listed owners.txt\n",
-            Some((3, Rule::U2)),
+            Some((4, Rule::U2)),
         ),
         (
             b"extent n 3\nplace n n listed owners.txt\n",
             Some((2, Rule::U2)),
         ),
-        (b"format d diagonal 0\nextent\n", Some((1, Rule::U2))),
-        (b"print W\nformat d diagonal 0\n", Some((1, Rule::J4))),
         (
-            b"extent\nformat s permute order.txt row dense > col packed\n",
+            b"extent n 3\nplace l n listed owners.txt\nextent\n",
+            Some((2, Rule::U2)),
+        ),
+        (
+            b"print W\nplace l n listed owners.txt\n",
+            Some((1, Rule::J4)),
+        ),
+        (
+            b"extent\nplace l n listed owners.txt\n",
             Some((1, Rule::J2)),
         ),
         (b"extent n 3\n\nprint W\nextent\n", Some((3, Rule::J4))),
