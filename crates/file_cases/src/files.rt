@@ -320,7 +320,11 @@ fn the_first_refusal_or_fault_is_that_of_the_first_file(rt: HostRuntime) -> Resu
 /// What an array without a file weighs, the formats, the rows, the columns and the files of the arrays after it, and the
 /// answer.
 const SHAPED: &[(u32, &[(Words, u32, u32, &[u8])], Outcome)] = &[
-    (1, &[(Words::Permute(b"order"), 2, 1, b"a")], Outcome::Loaded),
+    (
+        1,
+        &[(Words::Permute(b"order"), 2, 1, b"a")],
+        Outcome::Loaded,
+    ),
     (1, &[(Words::Permute(b"order"), 2, 1, b"")], Outcome::Loaded),
     (
         1,
