@@ -1,0 +1,8 @@
+//! Arrays in shapes of their own: rows in an order that a file gives.
+//!
+//! Rows and columns count from 0.
+#![tactic(auto)]
+
+mod orders;
+
+pub use orders::order_inverse;
