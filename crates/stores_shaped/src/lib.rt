@@ -4,5 +4,7 @@
 #![tactic(auto)]
 
 mod orders;
+mod permuted;
 
 pub use orders::order_inverse;
+pub use permuted::PermutedStore;
