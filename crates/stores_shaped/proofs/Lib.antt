@@ -1,2 +1,3 @@
+pub mod ArrangeLemmas
 pub mod OrderLemmas
 pub mod PermutedLemmas

@@ -1,13 +1,20 @@
 -- Orders of rows: their rows lie below the length, differ, and are all there.
-use Rattle.std.proofs.Common.{◌≡◌, ℕ, zero, suc, ◌+◌, ◌-◌, ◌^◌, ◌<◌, ◌≤◌, cond, ◌==◌, List, [], ◌∷◌, length, get_or, set, below_more, get_or-set_same, get_or-set_other, refl, sym, ap, ◌∙◌, subst, arith}
-use Rattle.std.specs.List.{All, Contains, range_with_len}
-use Rattle.std.proofs.lemmas.Bool.{cond-true, eq-eqb}
+use Rattle.std.proofs.Common.{◌≡◌, ℕ, zero, suc, ◌+◌, ◌^◌, ◌<◌, ◌≤◌, cond, ◌==◌, List, [], ◌∷◌, length, get_or, set, below_more, Option, Some, None, ◌++◌, ⊎_elim, get_or-set_same, get_or-set_other, refl, sym, ap, ◌∙◌, subst, arith}
+use Rattle.std.specs.List.{All, cons_option, filter, position, position_from, range_with_len}
+use Rattle.std.specs.List.Sorted.{IsPermutation}
+use Rattle.std.proofs.lemmas.Bool.{cases_eq, cond-false, cond-true, eq-eqb, ne_eqb}
+use Rattle.std.proofs.lemmas.List.Elements.{All-cons, All-head, All-nil, All-tail}
+use Rattle.std.proofs.lemmas.List.Quantifiers.{position-Some}
 use Rattle.std.proofs.lemmas.List.{get_or_read}
 use Rattle.std.proofs.lemmas.List.FromFn.{get_or-range_with_len, length-range_with_len}
-use Rattle.std.proofs.lemmas.List.Sorted.{All-permutation, Contains-permutation, sum_by-IsPermutation}
+use Rattle.std.proofs.lemmas.List.Sorted.{All-permutation, Contains-permutation, length_permutation, sum_by-IsPermutation}
 use Rattle.std.proofs.lemmas.List.Sums.{sum_by-cons}
 use Rattle.format_model.proofs.ContentLemmas.{once_in_range}
-use Rattle.format_model.proofs.LineLemmas.{count_of}
+use Rattle.format_model.proofs.LineLemmas.{count_of, dealt, dealt-permutation}
+use Rattle.format_model.proofs.OrderLemmas.{once_in_order}
+use Rattle.format_model.specs.Content.{local_rows}
+use Rattle.format_model.specs.Laws.{OrdersRows}
+use Rattle.bern_base.specs.declared.matrix.Matrix.{Matrix}
 use Rattle.stores_shaped.specs.Orders.{IsInverse, IsOrder}
 
 -- a number that stands at a place is counted
@@ -83,3 +90,62 @@ inverse_of order inverse has long placed = record {
       let at : get_or inverse row 0 ≡ q.0 = subst (λ r. get_or inverse r 0 ≡ q.0) q.2 (placed q.0 q.1) in
       ap (λ k. get_or order k 0) at ∙ q.2;
 }
+
+-- where a number stands in a list whose places count from some number
+abbrev pub place_from : ℕ → ℕ → List ℕ → Option ℕ
+place_from row from xs = position_from (λ g. g == row) from xs
+
+-- ---- the local order of a part
+
+after : (r a n : ℕ) → r < a → filter (λ k. k == r) (range_with_len a n) ≡ []
+after r a zero low = refl
+after r a (suc n) low = cond-false (a == r) (a ∷ filter (λ k. k == r) (range_with_len (a + 1) n)) (filter (λ k. k == r) (range_with_len (a + 1) n)) (ne_eqb a r (λ same. omega arith)) ∙ after r (a + 1) n (omega arith)
+
+-- of the numbers of a range, those that are one of them are that one
+single : (r a n : ℕ) → a ≤ r → r < a + n → filter (λ k. k == r) (range_with_len a n) ≡ r ∷ []
+single r a zero low high = absurd (omega arith)
+single r a (suc n) low high =
+    let rest : List ℕ = filter (λ k. k == r) (range_with_len (a + 1) n) in ⊎_elim
+    (λ (same : a ≡ r). cond-true (a == r) (a ∷ rest) rest (eq-eqb a r same) ∙ ap (λ xs. a ∷ xs) (after r (a + 1) n (omega arith)) ∙ ap (λ k. k ∷ []) same)
+    (λ (other : a ≡ r → ⊥). cond-false (a == r) (a ∷ rest) rest (ne_eqb a r other) ∙ single r (a + 1) n (omega (arith, other)) (omega arith))
+    (cases_eq a r)
+
+dealt_single : (n : ℕ) (order : List ℕ) → All (λ r. r < n) order → dealt (λ r. r) (range_with_len 0 n) order ≡ order
+dealt_single n [] below = refl
+dealt_single n (r ∷ order) below =
+    ap (λ xs. xs ++ dealt (λ r. r) (range_with_len 0 n) order) (single r 0 n (omega arith) (omega (arith, All-head (λ r. r < n) r order below)))
+    ∙ ap (λ xs. r ∷ xs) (dealt_single n order (All-tail (λ r. r < n) r order below))
+
+kept_below : (globals : List ℕ) (o : Option ℕ) (rest : List ℕ) → ((k : ℕ) → o ≡ Some k → k < length globals) → All (λ r. r < length globals) rest → All (λ r. r < length globals) (cons_option o rest)
+kept_below globals None rest found below = below
+kept_below globals (Some k) rest found below = All-cons (λ r. r < length globals) k rest (found k refl) below
+
+-- a list that has each number below n once, and no others, is an order of them
+pub order_of_counts : (n : ℕ) (order : List ℕ) → All (λ r. r < n) order → ((r : ℕ) → r < n → count_of r order ≡ 1) → IsPermutation (range_with_len 0 n) order
+order_of_counts n order below once =
+    let all : List ℕ = range_with_len 0 n in
+    let each : All (λ r. count_of r order ≡ 1) all = λ k d within.
+    let low : k < n = omega (arith, length-range_with_len 0 n) in
+    let at : get_or all k d ≡ k = omega (arith, get_or-range_with_len 0 n k d low) in once (get_or all k d) (omega (arith, at)) in
+    subst (IsPermutation all) (dealt_single n order below) (dealt-permutation (λ r. r) all order each)
+
+-- the numbers of a part's rows
+local_below : (globals order : List ℕ) → All (λ r. r < length globals) (local_rows globals order)
+local_below globals [] = All-nil (λ r. r < length globals)
+local_below globals (row ∷ order) = kept_below globals (position (λ g. g == row) globals) (local_rows globals order) (λ k found. (position-Some (λ g. g == row) globals k 0 found).0) (local_below globals order)
+
+pub local_is_order : (globals order : List ℕ) (m : Matrix) (rows : ℕ) → OrdersRows globals order m rows → IsPermutation (range_with_len 0 m.rows) (local_rows globals order)
+local_is_order globals order m rows orders =
+    order_of_counts m.rows (local_rows globals order) (subst (λ n. All (λ r. r < n) (local_rows globals order)) orders.long (local_below globals order)) (λ r low. once_in_order globals order m rows r orders low)
+
+pub order_of_part : (globals order : List ℕ) (m : Matrix) (rows : ℕ) (local : List ℕ) → OrdersRows globals order m rows → local ≡ local_rows globals order → (length local ≡ m.rows) × IsOrder local
+order_of_part globals order m rows local orders same =
+    let is : IsPermutation (range_with_len 0 m.rows) local = subst (IsPermutation (range_with_len 0 m.rows)) (sym same) (local_is_order globals order m rows orders) in
+    let long : length local ≡ m.rows = length_permutation (range_with_len 0 m.rows) local is ∙ length-range_with_len 0 m.rows in
+    (long, subst (λ n. IsPermutation (range_with_len 0 n) local) (sym long) is)
+
+-- the rows of an order lie below its length
+pub order_below : (order : List ℕ) → IsOrder order → All (λ r. r < length order) order
+order_below order is =
+    All-permutation (λ r. r < length order) (range_with_len 0 (length order)) order is
+    (λ k d within. let low : k < length order = omega (arith, length-range_with_len 0 (length order)) in omega (arith, get_or-range_with_len 0 (length order) k d low))

@@ -1,11 +1,22 @@
 -- What the calls of a permuted store read, as the children of its tree.
-use Rattle.std.proofs.Common.{◌≡◌, ℕ, zero, suc, ◌+◌, ◌<◌, ◌≤◌, List, length, get_or, Option, Some, None, refl, sym, ap, ◌∙◌, subst, arith}
-use Rattle.std.specs.List.{slice_get}
+use Rattle.std.proofs.Common.{◌≡◌, ℕ, zero, suc, ◌+◌, ◌<◌, ◌≤◌, List, [], length, map, get_or, Some, None, refl, sym, ap, ◌∙◌, subst, arith}
+use Rattle.std.specs.List.{range_with_len, slice_get}
+use Rattle.std.proofs.lemmas.List.{get_or-map, length-map}
+use Rattle.std.proofs.lemmas.List.Folds.{map_fixed}
+use Rattle.std.proofs.lemmas.List.FromFn.{get_or-map-range_with_len, length-map-range_with_len}
 use Rattle.std.proofs.lemmas.Option.{slice_get-get_or}
+use Rattle.std.proofs.lemmas.Simd.{map-map}
+use Rattle.bern_base.specs.declared.axes.Axis.TheVariants as axis
+use Rattle.bern_base.specs.declared.matrix.Matrix.{Matrix}
+use Rattle.bern_base.specs.declared.shape.Shape.TheVariants as shape
+use Rattle.format_model.specs.Content.{Two}
+use Rattle.format_model.specs.Levels.{Level, level_at, levels_of}
 use Rattle.format_model.specs.Made.{length-made, made_at, made_found, made_none}
-use Rattle.format_model.specs.Trees.{IsParent, Tree, child_at}
+use Rattle.format_model.specs.Trees.{Describes, IsTree, Tree, child_at, content, content_by, leaves_below}
+use Rattle.stores_packed.proofs.RangeLemmas.{range_same}
+use Rattle.stores_shaped.proofs.ArrangeLemmas.{by_place}
 use Rattle.stores_shaped.specs.Orders.{IsInverse}
-use Rattle.stores_shaped.specs.Permuted.{HasDenseRows, child_of, permuted_children, permuted_tree}
+use Rattle.stores_shaped.specs.Permuted.{HasDenseRows, HoldsInOrder, child_of, permuted_children, permuted_levels, permuted_tree, row_leaves}
 use Rattle.stores_shaped.specs.PermutedLaws.{length_rows, rows_apart}
 
 -- what is read at a place
@@ -55,3 +66,56 @@ place_within t order inverse zero parent row place dense undo first is within re
     let low : get_or inverse row 0 < length order = undo.places row (omega (arith, undo.long)) in
     omega (arith, length_rows t (length order) parent dense is, got inverse row 0 place within read, low)
 place_within t order inverse (suc level) parent row place dense undo first is within read = absurd (omega arith)
+
+-- ---- what it describes
+
+-- a node of level 0 with the leaves below it, and a row with its own
+abbrev line_of : Tree → ℕ × ℕ → ℕ × List (ℕ × ℕ)
+line_of t c = (c.0, leaves_below t 1 c.1)
+
+abbrev row_line : Matrix → ℕ → ℕ × List (ℕ × ℕ)
+row_line m l = (l, row_leaves m l)
+
+-- the leaves of each place are those of the row within
+within_leaves : (t : Tree) (globals whole : List ℕ) (m : Matrix) → Describes t (shape.DensePacked axis.Row) globals whole m →
+    map (line_of t) (t.children 0 0) ≡ map (row_line m) (range_with_len 0 m.rows)
+within_leaves t globals whole m d =
+    let two : content t ≡ Two (map (line_of t) (t.children 0 0)) = ap (λ (ls : List Level). content_by (length ls) t) d.levels in
+    let same : Two (map (line_of t) (t.children 0 0)) ≡ Two (map (row_line m) (range_with_len 0 m.rows)) = sym two ∙ d.content in cc
+
+pub dense_rows : (t : Tree) (globals whole : List ℕ) (m : Matrix) → IsTree t → Describes t (shape.DensePacked axis.Row) globals whole m → HasDenseRows t m.rows
+dense_rows t globals whole m is d = record {
+  level = ap (λ ls. level_at ls 0) d.levels;
+  indices = λ parent low.
+      let first : parent ≡ 0 = omega (arith, is.root) in
+      subst (λ p. map (λ c. c.0) (t.children 0 p) ≡ range_with_len 0 m.rows) (sym first)
+      (sym (map-map (λ (c : ℕ × List (ℕ × ℕ)). c.0) (line_of t) (t.children 0 0))
+      ∙ ap (map (λ (c : ℕ × List (ℕ × ℕ)). c.0)) (within_leaves t globals whole m d)
+      ∙ map-map (λ (c : ℕ × List (ℕ × ℕ)). c.0) (row_line m) (range_with_len 0 m.rows)
+      ∙ map_fixed (λ l. l) (range_with_len 0 m.rows) (λ k x within. refl));
+}
+
+-- the leaves at a place
+place_leaves : (t : Tree) (globals whole : List ℕ) (m : Matrix) (place : ℕ) → Describes t (shape.DensePacked axis.Row) globals whole m → place < m.rows →
+    leaves_below t 1 (child_of t 0 place) ≡ row_leaves m place
+place_leaves t globals whole m place d low =
+    let all = within_leaves t globals whole m d in
+    let long : length (t.children 0 0) ≡ m.rows = sym (length-map (t.children 0 0) (line_of t)) ∙ ap length all ∙ length-map-range_with_len (row_line m) 0 m.rows in
+    ap (λ (c : ℕ × List (ℕ × ℕ)). c.1)
+    (sym (get_or-map (line_of t) (t.children 0 0) place (0, 0) (0, []) (omega (arith, long)))
+    ∙ ap (λ cs. get_or cs place (0, [])) all
+    ∙ get_or-map-range_with_len (row_line m) 0 m.rows place place (0, []) low (omega arith))
+
+pub permuted_describes : (t : Tree) (order globals whole : List ℕ) (m arranged : Matrix) (file : List ℕ) → HoldsInOrder t order globals whole m arranged → Describes (permuted_tree t order) (shape.Permute file) globals whole m
+permuted_describes t order globals whole m arranged file h =
+    let tree : Tree = permuted_tree t order in
+    let leaves : ℕ → List (ℕ × ℕ) = λ k. leaves_below t 1 (child_of t 0 k) in
+    let levels : permuted_levels t.levels ≡ levels_of (shape.Permute file) = ap permuted_levels h.described.levels in record {
+      levels = levels;
+      content = ap (λ (ls : List Level). content_by (length ls) tree) levels ∙ ap Two
+          (map-map (line_of t) (λ k. (get_or order k 0, child_of t 0 k)) (range_with_len 0 (length order))
+          ∙ range_same (λ k. (get_or order k 0, leaves k)) (λ k. (get_or order k 0, row_leaves m (get_or order k 0))) 0 (length order)
+          (λ k low high. ap (λ ls. (get_or order k 0, ls)) (place_leaves t globals whole arranged k h.described (omega (arith, h.rows.rows)) ∙ h.rows.leaves k (omega arith)))
+          ∙ sym (by_place (row_line m) (0, []) order)
+          ∙ ap (map (row_line m)) h.order_is);
+    }

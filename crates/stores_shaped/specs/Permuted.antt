@@ -3,10 +3,11 @@ use Rattle.std.specs.Prelude.{◌≡◌, ℕ, zero, suc, ◌<◌, List, ◌∷�
 use Rattle.std.specs.List.{range_with_len}
 use Rattle.bern_base.specs.declared.axes.Axis.TheVariants as axis
 use Rattle.bern_base.specs.declared.matrix.Matrix.{Matrix}
-use Rattle.format_model.specs.Content.{in_line, leaf_on}
+use Rattle.bern_base.specs.declared.shape.Shape.TheVariants as shape
+use Rattle.format_model.specs.Content.{in_line, leaf_on, local_rows}
 use Rattle.format_model.specs.Levels.{Level, arranged_level, dense_level, level_at}
 use Rattle.format_model.specs.Made.{made}
-use Rattle.format_model.specs.Trees.{Tree}
+use Rattle.format_model.specs.Trees.{Describes, Tree}
 
 -- the outer level has every row, rising, so many of them
 pub record HasDenseRows (t : Tree) (rows : ℕ) : Type 0 where
@@ -42,3 +43,9 @@ row_leaves m row = map (leaf_on axis.Col m.cols) (in_line axis.Row m.cols row m.
 pub record HasRowsInOrder (order : List ℕ) (m arranged : Matrix) : Type 0 where
   pub rows : arranged.rows ≡ length order
   pub leaves : (place : ℕ) → place < length order → row_leaves arranged place ≡ row_leaves m (slice_index order place)
+
+-- a store with dense rows holds the rows of a part in the order in which a whole order has them
+pub record HoldsInOrder (t : Tree) (order globals whole : List ℕ) (m arranged : Matrix) : Type 0 where
+  pub described : Describes t (shape.DensePacked axis.Row) globals whole arranged
+  pub rows : HasRowsInOrder order m arranged
+  pub order_is : order ≡ local_rows globals whole

@@ -1,11 +1,11 @@
 -- The tree of a permuted store is a tree.
-use Rattle.std.proofs.Common.{◌≡◌, ℕ, zero, suc, ◌+◌, ◌<◌, ◌≤◌, true, false, List, [], ◌∷◌, drop, length, get_or, map, refl, sym, ap, ◌∙◌, subst, arith}
+use Rattle.std.proofs.Common.{◌≡◌, ℕ, zero, suc, ◌<◌, ◌≤◌, true, List, [], ◌∷◌, length, get_or, refl, sym, ap, ◌∙◌, subst, arith}
 use Rattle.std.specs.List.{All, AllPairs, count_by, range_with_len}
 use Rattle.std.specs.Prelude.{◌==◌}
 use Rattle.std.proofs.lemmas.Bool.{false≢true}
 use Rattle.std.proofs.lemmas.List.{get_or-map, length-map}
 use Rattle.std.proofs.lemmas.List.FromFn.{get_or-range_with_len, length-range_with_len}
-use Rattle.format_model.specs.Levels.{Level, arranged_level, level_at}
+use Rattle.format_model.specs.Levels.{Level, level_at}
 use Rattle.format_model.specs.Made.{made_all, made_once}
 use Rattle.format_model.specs.Trees.{IsParent, IsTree, Tree, depth_of, ordered_at}
 use Rattle.format_model.specs.declared.limits.TheConstants.{MOST_INDEX}

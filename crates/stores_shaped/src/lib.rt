@@ -3,8 +3,10 @@
 //! Rows and columns count from 0.
 #![tactic(auto)]
 
+mod arranging;
 mod orders;
 mod permuted;
 
-pub use orders::order_inverse;
+pub use arranging::rows_in_order;
+pub use orders::{local_order, order_inverse};
 pub use permuted::PermutedStore;

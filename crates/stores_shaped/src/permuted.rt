@@ -1,16 +1,20 @@
-ghost use Rattle.std.specs.Prelude.{◌≡◌, ℕ, List, length};
-ghost use Rattle.bern_base.specs.declared.axes.Axis.TheVariants as axis;
+ghost use Rattle.std.specs.Prelude.{◌≡◌, ℕ, ◌^◌, ◌<◌, IfOk, List, length};
+ghost use Rattle.bern_base.specs.Matrix.{IsMatrix};
 ghost use Rattle.bern_base.specs.declared.matrix.Matrix.{Matrix};
 ghost use Rattle.bern_base.specs.declared.shape.Shape.TheVariants as shape;
-ghost use Rattle.format_model.specs.Content.{local_rows};
+ghost use Rattle.format_model.specs.Laws.{OrdersRows};
 ghost use Rattle.format_model.specs.Trees.{Describes};
 ghost use Rattle.stores_shaped.specs.Orders.{IsInverse};
-ghost use Rattle.stores_shaped.specs.Permuted.{HasDenseRows, HasRowsInOrder, permuted_tree};
+ghost use Rattle.stores_shaped.specs.Permuted.{HasDenseRows, HoldsInOrder, permuted_tree};
 ghost use Rattle.stores_shaped.specs.PermutedLaws.{permuted_is_tree};
 
+use crate::arranging::rows_in_order;
+use crate::orders::{local_order, order_inverse};
 use access_joins::{Access, Line};
-use bern_base::{Axis, Items, Steps, Text, Val};
+use bern_base::{Axis, Items, Matrix, NoMemory, Steps, Val};
+use std::alloc::Global;
 use std::sync::ledger::Ledger;
+use stores_packed::PackedStore;
 
 /// The rows of a store in an order: its place q has row `order[q]` of the part.
 #[derive(Debug, Drop)]
@@ -31,12 +35,40 @@ impl<S: Access> PermutedStore<S> {
         requires dense { HasDenseRows (S.tree inner) (length order) }
         requires undo { IsInverse order inverse }
         ensures tree { ⟦<PermutedStore<S> as Access>⟧.tree result ≡ permuted_tree (S.tree inner) order }
+        ensures describes { (file globals whole : List ℕ) (part arranged : Matrix) →
+            HoldsInOrder (S.tree inner) order globals whole part arranged →
+            Describes (⟦<PermutedStore<S> as Access>⟧.tree result) (shape.Permute file) globals whole part }
     {
         PermutedStore {
             inner,
             order,
             inverse,
         }
+    }
+}
+
+impl PermutedStore<PackedStore> {
+    /// Stores the rows of a part in the order in which the whole `order` has them, each by its entries. `globals` has the row
+    /// of the array for each row of the part. It takes time linear in the entries and in the rows of the array.
+    pub fn build(
+        alloc: Global,
+        part: &Matrix,
+        globals: &Items<u32>,
+        order: &Items<u32>,
+    ) -> Result<PermutedStore<PackedStore>, NoMemory>
+        requires part { IsMatrix part.now }
+        requires few { length part.now.entries < 2 ^ 32 }
+        requires orders { OrdersRows globals.now order.now part.now (length order.now) }
+        ensures { IfOk result (λ s. (file : List ℕ) →
+            Describes (⟦<PermutedStore<PackedStore> as Access>⟧.tree s) (shape.Permute file) globals.now order.now part.now) }
+    {
+        // The rows of a part are counted in 32 bits, so its local numbers fit.
+        let _rows = part.rows;
+        let local = local_order(alloc, globals, order)?;
+        let inverse = order_inverse(alloc, &local)?;
+        let arranged = rows_in_order(alloc, part, &local)?;
+        let inner = PackedStore::build(alloc, &arranged, Axis::Row, true, false)?;
+        Ok(PermutedStore::wrap(inner, local, inverse))
     }
 }
 
