@@ -12,11 +12,7 @@ use stores_packed::{Filled, fill};
 
 /// The rows of a part in an order: row q of the result is row `order[q]` of the part. Two passes over the entries and one over
 /// the rows.
-pub fn rows_in_order(
-    alloc: Global,
-    part: &Matrix,
-    order: &Items<u32>,
-) -> Result<Matrix, NoMemory>
+pub fn rows_in_order(alloc: Global, part: &Matrix, order: &Items<u32>) -> Result<Matrix, NoMemory>
     requires part { IsMatrix part.now }
     requires few { length part.now.entries < 2 ^ 32 }
     requires order { IsOrder order.now }
@@ -39,19 +35,14 @@ pub fn rows_in_order(
 }
 
 /// Appends the entries of a row, as those of the row `place`.
-fn push_row(
-    filled: &Filled,
-    row: u32,
-    place: u32,
-    entries: &mut Vec<Entry>,
-) -> Result<(), NoMemory>
+fn push_row(filled: &Filled, row: u32, place: u32, entries: &mut Vec<Entry>) -> Result<(), NoMemory>
     requires row { row + 1 < length filled.now.starts.items }
     requires order { slice_index filled.now.starts.items row ≤ slice_index filled.now.starts.items (row + 1) }
     requires within { slice_index filled.now.starts.items (row + 1) ≤ length filled.now.indices.items }
     requires values { length filled.now.indices.items ≤ length filled.now.values.items }
     ensures { OnOk result (entries.new.items ≡ entries.old.items ++
         map (line_element axis.Row place) (stretch filled.now.indices.items filled.now.values.items
-            (slice_index filled.now.starts.items row) (slice_index filled.now.starts.items (row + 1) - slice_index filled.now.starts.items row))) }
+        (slice_index filled.now.starts.items row) (slice_index filled.now.starts.items (row + 1) - slice_index filled.now.starts.items row))) }
 {
     let from = filled.starts[row as usize];
     let to = filled.starts[row as usize + 1];
