@@ -34,6 +34,12 @@ count_twice (y ∷ xs) zero (suc j) x up within first second =
 count_twice (y ∷ xs) (suc i) (suc j) x up within first second =
     let later : 2 ≤ count_of x xs = count_twice xs i j x (omega arith) (omega arith) first second in omega (arith, later, sum_by-cons (λ z. cond (z == x) 1 0) y xs)
 
+-- the rows of an order lie below its length
+pub order_below : (order : List ℕ) → IsOrder order → All (λ r. r < length order) order
+order_below order is =
+    All-permutation (λ r. r < length order) (range_with_len 0 (length order)) order is
+    (λ k d within. let low : k < length order = omega (arith, length-range_with_len 0 (length order)) in omega (arith, get_or-range_with_len 0 (length order) k d low))
+
 -- what an order gives
 pub record HasRows (order : List ℕ) : Type 0 where
   pub below : (q : ℕ) → q < length order → get_or order q 0 < length order
@@ -43,9 +49,7 @@ pub record HasRows (order : List ℕ) : Type 0 where
 pub rows_of_order : (order : List ℕ) → IsOrder order → HasRows order
 rows_of_order order is =
     let n : ℕ = length order in
-    let inside : All (λ r. r < n) (range_with_len 0 n) = λ k d within.
-    let low : k < n = omega (arith, length-range_with_len 0 n) in subst (λ r. r < n) (sym (get_or-range_with_len 0 n k d low)) (omega arith) in
-    let below : All (λ r. r < n) order = All-permutation (λ r. r < n) (range_with_len 0 n) order is inside in record {
+    let below : All (λ r. r < n) order = order_below order is in record {
       below = λ q low. below q 0 low;
       apart = λ q r up low same.
           let x : ℕ = get_or order r 0 in
@@ -143,9 +147,3 @@ order_of_part globals order m rows local orders same =
     let is : IsPermutation (range_with_len 0 m.rows) local = subst (IsPermutation (range_with_len 0 m.rows)) (sym same) (local_is_order globals order m rows orders) in
     let long : length local ≡ m.rows = length_permutation (range_with_len 0 m.rows) local is ∙ length-range_with_len 0 m.rows in
     (long, subst (λ n. IsPermutation (range_with_len 0 n) local) (sym long) is)
-
--- the rows of an order lie below its length
-pub order_below : (order : List ℕ) → IsOrder order → All (λ r. r < length order) order
-order_below order is =
-    All-permutation (λ r. r < length order) (range_with_len 0 (length order)) order is
-    (λ k d within. let low : k < length order = omega (arith, length-range_with_len 0 (length order)) in omega (arith, get_or-range_with_len 0 (length order) k d low))

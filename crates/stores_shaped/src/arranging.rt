@@ -42,7 +42,8 @@ fn push_row(filled: &Filled, row: u32, place: u32, entries: &mut Vec<Entry>) -> 
     requires values { length filled.now.indices.items ≤ length filled.now.values.items }
     ensures { OnOk result (entries.new.items ≡ entries.old.items ++
         map (line_element axis.Row place) (stretch filled.now.indices.items filled.now.values.items
-        (slice_index filled.now.starts.items row) (slice_index filled.now.starts.items (row + 1) - slice_index filled.now.starts.items row))) }
+        (slice_index filled.now.starts.items row)
+        (slice_index filled.now.starts.items (row + 1) - slice_index filled.now.starts.items row))) }
 {
     let from = filled.starts[row as usize];
     let to = filled.starts[row as usize + 1];

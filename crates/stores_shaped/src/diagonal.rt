@@ -92,7 +92,8 @@ impl DiagonalStore {
         requires row { row < length self.now.globals }
         requires from { line.from ≡ slice_index self.now.starts.items row }
         requires to { line.to ≡ slice_index self.now.starts.items (row + 1) }
-        ensures found { result ≡ child_at (placed (diagonal_index self.now.offsets self.now.globals self.now.firsts.items self.now.starts.items row)
+        ensures found { result ≡ child_at (placed
+            (diagonal_index self.now.offsets self.now.globals self.now.firsts.items self.now.starts.items row)
             line.from (line.to - line.from)) index }
         ensures cost { steps.new ≤ steps.old + bits (line.to - line.from) }
     {
@@ -126,8 +127,10 @@ fn fill(
     requires part { IsMatrix part.now }
     requires rows { length globals.now ≡ part.now.rows }
     requires rise { AllPairs (λ a b. a <ℤ b) offsets.now }
-    requires found { AreWindows part.now.cols offsets.now globals.now (length globals.now) found.now.firsts.items found.now.starts.items }
-    ensures { IfOk result (λ values. HasValues part.now offsets.now globals.now found.now.firsts.items found.now.starts.items values.items) }
+    requires found { AreWindows part.now.cols offsets.now globals.now (length globals.now)
+        found.now.firsts.items found.now.starts.items }
+    ensures { IfOk result (λ values.
+        HasValues part.now offsets.now globals.now found.now.firsts.items found.now.starts.items values.items) }
 {
     let rows = globals.as_slice();
     let listed = offsets.as_slice();
