@@ -29,7 +29,7 @@ kept_same p q f g a (suc n) tests each =
     ∙ kept_one (q a) f g a (filter p (range_with_len (a + 1) n)) (filter q (range_with_len (a + 1) n)) (each a (omega arith) (omega arith))
     (kept_same p q f g (a + 1) n (λ k low high. tests k (omega arith) (omega arith)) (λ k low high. each k (omega arith) (omega arith)))
 
-range_more : (a n j : ℕ) → a + n ≡ j → range_with_len a (suc n) ≡ range_with_len a n ++ j ∷ []
+pub range_more : (a n j : ℕ) → a + n ≡ j → range_with_len a (suc n) ≡ range_with_len a n ++ j ∷ []
 range_more a zero j at = ap (λ k. k ∷ []) (omega arith)
 range_more a (suc n) j at = ap (λ r. a ∷ r) (range_more (a + 1) n j (omega arith))
 

@@ -11,4 +11,5 @@ mod lines;
 mod squeezing;
 mod store;
 
+pub use filling::{Filled, fill};
 pub use store::PackedStore;

@@ -1,0 +1,15 @@
+//! Arrays in shapes of their own: listed diagonals, and rows in an order that a file gives.
+//!
+//! Rows and columns count from 0.
+#![tactic(auto)]
+
+mod arranging;
+mod crossing;
+mod diagonal;
+mod orders;
+mod permuted;
+
+pub use arranging::rows_in_order;
+pub use diagonal::DiagonalStore;
+pub use orders::{local_order, order_inverse};
+pub use permuted::PermutedStore;
