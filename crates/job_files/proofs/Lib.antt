@@ -8,3 +8,4 @@ pub mod ServingLemmas
 pub mod TotalLemmas
 pub mod ArrayLemmas
 pub mod JobLemmas
+pub mod ShapeLemmas

@@ -16,5 +16,5 @@ pub use laws::{
 };
 pub use nest::terms;
 pub use references::reference_at;
-pub use subscripts::{has_factor, subscript};
+pub use subscripts::{has_factor, level_axis, subscript};
 pub use term_model::{Plan, PlanStep, PlannedTerm, Plans, Term};

@@ -2,7 +2,7 @@ use bern_base::{
     Affine, ArrayDecl, Axis, Checked, Expr, Factor, FormatDecl, Items, Nest, NoMemory, Product,
     Ref, Shape, Text, Val,
 };
-use loop_query::{Term, has_factor, reference_at, subscript, terms};
+use loop_query::{Term, has_factor, level_axis, reference_at, subscript, terms};
 use std::alloc::Global;
 use std::test::Fail;
 
@@ -205,6 +205,16 @@ fn the_most_terms_and_references_of_a_job(rt: HostRuntime) -> Result<(), Fail> {
     assert_eq!(&rt; shapes[0], (1, 4, 0));
     assert_eq!(&rt; shapes[1], (-2, 3, 1));
     assert_eq!(&rt; shapes[15], (16, 0, 4));
+    Ok(())
+}
+
+#[test]
+fn levels_have_the_axes_of_their_format(rt: HostRuntime) -> Result<(), Fail> {
+    assert_eq!(&rt; level_axis(&Shape::PackedOne, 0), Axis::Row);
+    assert_eq!(&rt; level_axis(&Shape::ListTwo, 0), Axis::Both);
+    assert_eq!(&rt; level_axis(&Shape::PackedPacked(Axis::Col), 0), Axis::Col);
+    assert_eq!(&rt; level_axis(&Shape::PackedPacked(Axis::Col), 1), Axis::Row);
+    assert_eq!(&rt; level_axis(&Shape::Jagged, 1), Axis::Col);
     Ok(())
 }
 
