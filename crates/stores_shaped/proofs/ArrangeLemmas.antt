@@ -103,7 +103,7 @@ filter_keeps p [] all = refl
 filter_keeps p (x ∷ xs) all =
     cond-true (p x) (x ∷ filter p xs) (filter p xs) (All-head (λ y. p y ≡ true) x xs all) ∙ ap (λ ys. x ∷ ys) (filter_keeps p xs (All-tail (λ y. p y ≡ true) x xs all))
 
-filter_drops : {X : Type 0} (p : X → Bool) (xs : List X) → All (λ x. p x ≡ false) xs → filter p xs ≡ []
+pub filter_drops : {X : Type 0} (p : X → Bool) (xs : List X) → All (λ x. p x ≡ false) xs → filter p xs ≡ []
 filter_drops p [] all = refl
 filter_drops p (x ∷ xs) all =
     cond-false (p x) (x ∷ filter p xs) (filter p xs) (All-head (λ y. p y ≡ false) x xs all) ∙ filter_drops p xs (All-tail (λ y. p y ≡ false) x xs all)
