@@ -156,7 +156,7 @@ arranged_rows order m is long = record {
 pub by_place : {X : Type 0} (f : ℕ → X) (d : X) (xs : List ℕ) → map f xs ≡ map (λ k. f (get_or xs k 0)) (range_with_len 0 (length xs))
 by_place f d xs = fill_by_all (λ k. f (get_or xs k 0)) (map f xs) (length xs) d (length-map xs f) (λ k low. get_or-map f xs k 0 d low)
 
-same_lengths : {X Y Z : Type 0} (f : X → List Y) (g : X → List Z) (xs : List X) → ((x : X) → length (f x) ≡ length (g x)) → length (flat_map f xs) ≡ length (flat_map g xs)
+pub same_lengths : {X Y Z : Type 0} (f : X → List Y) (g : X → List Z) (xs : List X) → ((x : X) → length (f x) ≡ length (g x)) → length (flat_map f xs) ≡ length (flat_map g xs)
 same_lengths f g [] each = refl
 same_lengths f g (x ∷ xs) each = omega (arith, length-append (f x) (flat_map f xs), length-append (g x) (flat_map g xs), each x, same_lengths f g xs each)
 
