@@ -46,7 +46,7 @@ sized : (sizes : Bool) (later : Option Rule) → first_of (if sizes then None el
 sized true later passed = refl
 sized false later passed = absurd cc
 
-sizes_of : (rows cols : ℕ) (m : Matrix) (later : Option Rule) → first_of (sizes_rule rows cols m) later ≡ None → (m.rows ≡ rows) × (m.cols ≡ cols)
+pub sizes_of : (rows cols : ℕ) (m : Matrix) (later : Option Rule) → first_of (sizes_rule rows cols m) later ≡ None → (m.rows ≡ rows) × (m.cols ≡ cols)
 sizes_of rows cols m later passed =
     let tests = both (m.rows == rows) (m.cols == cols) (sized (has_sizes rows cols m) later passed) in
     (eqb-true m.rows rows tests.0, eqb-true m.cols cols tests.1)

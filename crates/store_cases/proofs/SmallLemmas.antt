@@ -1,10 +1,9 @@
 -- A small matrix can be free in each format that it suits.
-use Rattle.std.proofs.Common.{◌≡◌, ℕ, ◌*◌, ◌^◌, ◌<◌, ◌≤◌, List, true, false, length, sym, subst, arith}
+use Rattle.std.proofs.Common.{◌≡◌, ℕ, ◌*◌, ◌^◌, ◌<◌, List, true, length, sym, subst, arith}
 use Rattle.std.proofs.lemmas.List.FromFn.{length-map-range_with_len}
 use Rattle.bern_base.specs.declared.matrix.Matrix.{Matrix}
 use Rattle.bern_base.specs.declared.shape.Shape.{Shape}
 use Rattle.bern_base.specs.declared.shape.Shape.TheVariants as shape
-use Rattle.format_model.specs.declared.limits.TheConstants.{MOST_INDEX}
 use Rattle.format_model.specs.Laws.{Suits}
 use Rattle.format_model.specs.Stored.{all_elements, element_at, stored_elements}
 use Rattle.formats.specs.Builds.{CanBuild, HasDiagonals}

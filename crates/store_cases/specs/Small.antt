@@ -1,5 +1,5 @@
 -- Small matrices, which every format can store.
-use Rattle.std.specs.Prelude.{◌≡◌, ◌*◌, ◌^◌, ◌<◌, Bool, true, false, length}
+use Rattle.std.specs.Prelude.{◌*◌, ◌^◌, ◌<◌, Bool, true, false, length}
 use Rattle.bern_base.specs.Matrix.{IsMatrix}
 use Rattle.bern_base.specs.declared.matrix.Matrix.{Matrix}
 use Rattle.bern_base.specs.declared.shape.Shape.{Shape}
