@@ -1,3 +1,4 @@
+pub mod AdmittedLemmas
 pub mod BuildLemmas
 pub mod MarkLemmas
 pub mod OrderLemmas

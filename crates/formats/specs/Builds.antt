@@ -1,5 +1,6 @@
--- Which formats can be built, and what is built of a part.
-use Rattle.std.specs.Prelude.{◌≡◌, ℕ, ◌*◌, ◌^◌, ◌<◌, ◌≤◌, Bool, true, false, List, Option, Some, None, length}
+-- What a part has to be for its format's store, and what is built of it.
+use Rattle.std.specs.Prelude.{◌≡◌, ℕ, ◌*◌, ◌^◌, ◌<◌, ◌≤◌, ◌<ℤ◌, Bool, true, false, List, Option, Some, None, length, ℤ}
+use Rattle.std.specs.List.{All, AllPairs}
 use Rattle.bern_base.specs.Matrix.{IsMatrix}
 use Rattle.bern_base.specs.declared.axes.Axis.{Axis}
 use Rattle.bern_base.specs.declared.axes.Axis.TheVariants as axis
@@ -8,24 +9,23 @@ use Rattle.bern_base.specs.declared.shape.Shape.{Shape}
 use Rattle.bern_base.specs.declared.shape.Shape.TheVariants as shape
 use Rattle.format_model.specs.declared.limits.TheConstants.{MOST_INDEX}
 use Rattle.format_model.specs.Grids.{Grid}
-use Rattle.format_model.specs.Laws.{IsSide, Suits}
+use Rattle.format_model.specs.Laws.{IsSide, OrdersRows, Suits}
 use Rattle.format_model.specs.Stored.{stored_elements}
 use Rattle.stores_flat.specs.Dense.{grid_of}
+use Rattle.stores_shaped.specs.Diagonals.{IsOffset, diagonal_count}
 
--- stores of the other formats are not there yet
-abbrev pub is_built : Shape → Bool
-is_built shape.Jagged = false
-is_built (shape.Diagonal offsets) = false
-is_built (shape.Permute file) = false
-is_built other = true
+-- a diagonal format has offsets within their limit, and its store takes the row of the array for each row of the part
+abbrev pub HasDiagonals : Shape → List ℕ → Matrix → Type 0
+HasDiagonals (shape.Diagonal offsets) globals m = (length globals ≡ m.rows) × All IsOffset offsets
+HasDiagonals other globals m = Unit {0}
 
--- a part that can be built: of a built format that it suits, with elements that 32 bits can number, and with no index past the largest
+-- a part that can be built: it suits the format, has elements that 32 bits can number, and no index past the largest
 pub record CanBuild (s : Shape) (globals order : List ℕ) (m : Matrix) : Type 0 where
-  pub built : is_built s ≡ true
   pub matrix : IsMatrix m
   pub suits : Suits s globals order m
   pub few : length (stored_elements s globals m) < 2 ^ 32
   pub small : m.rows * m.cols ≤ MOST_INDEX
+  pub diagonals : HasDiagonals s globals m
 
 -- the elements of a part that is kept whole; a sparse one has none
 abbrev pub part_grid : Shape → Matrix → Option Grid
@@ -54,3 +54,17 @@ pub record CanPack (outer : Axis) (single : Bool) (m : Matrix) : Type 0 where
   pub few : length m.entries < 2 ^ 32
   pub outer_side : IsSide outer
   pub column : single ≡ true → m.cols ≡ 1
+
+-- what a store of listed diagonals needs
+pub record CanDiagonal (offsets : List ℤ) (globals : List ℕ) (m : Matrix) : Type 0 where
+  pub matrix : IsMatrix m
+  pub rows : length globals ≡ m.rows
+  pub rise : AllPairs (λ a b. a <ℤ b) offsets
+  pub offsets_small : All IsOffset offsets
+  pub few : diagonal_count m.cols offsets globals < 2 ^ 32
+
+-- what a store of rows in an order needs
+pub record CanPermute (globals order : List ℕ) (m : Matrix) : Type 0 where
+  pub matrix : IsMatrix m
+  pub few : length m.entries < 2 ^ 32
+  pub orders : OrdersRows globals order m (length order)

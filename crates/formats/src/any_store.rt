@@ -3,6 +3,7 @@ use bern_base::{Axis, Steps, Val};
 use std::sync::ledger::Ledger;
 use stores_flat::{DenseStore, ListStore};
 use stores_packed::PackedStore;
+use stores_shaped::{DiagonalStore, JaggedStore, PermutedStore};
 
 /// A store of any format. Each call is handed on to the store within.
 #[derive(Debug, Drop)]
@@ -10,6 +11,9 @@ pub enum AnyStore {
     Dense(DenseStore),
     List(ListStore),
     Packed(PackedStore),
+    Jagged(JaggedStore),
+    Diagonal(DiagonalStore),
+    Permuted(PermutedStore<PackedStore>),
 }
 
 impl Access for AnyStore {
@@ -24,6 +28,9 @@ impl Access for AnyStore {
             AnyStore::Dense(store) => store.levels(),
             AnyStore::List(store) => store.levels(),
             AnyStore::Packed(store) => store.levels(),
+            AnyStore::Jagged(store) => store.levels(),
+            AnyStore::Diagonal(store) => store.levels(),
+            AnyStore::Permuted(store) => store.levels(),
         }
     }
 
@@ -32,6 +39,9 @@ impl Access for AnyStore {
             AnyStore::Dense(store) => store.axis(level),
             AnyStore::List(store) => store.axis(level),
             AnyStore::Packed(store) => store.axis(level),
+            AnyStore::Jagged(store) => store.axis(level),
+            AnyStore::Diagonal(store) => store.axis(level),
+            AnyStore::Permuted(store) => store.axis(level),
         }
     }
 
@@ -40,6 +50,9 @@ impl Access for AnyStore {
             AnyStore::Dense(store) => store.ordered(level),
             AnyStore::List(store) => store.ordered(level),
             AnyStore::Packed(store) => store.ordered(level),
+            AnyStore::Jagged(store) => store.ordered(level),
+            AnyStore::Diagonal(store) => store.ordered(level),
+            AnyStore::Permuted(store) => store.ordered(level),
         }
     }
 
@@ -48,6 +61,9 @@ impl Access for AnyStore {
             AnyStore::Dense(store) => store.count(level, parent),
             AnyStore::List(store) => store.count(level, parent),
             AnyStore::Packed(store) => store.count(level, parent),
+            AnyStore::Jagged(store) => store.count(level, parent),
+            AnyStore::Diagonal(store) => store.count(level, parent),
+            AnyStore::Permuted(store) => store.count(level, parent),
         }
     }
 
@@ -56,6 +72,9 @@ impl Access for AnyStore {
             AnyStore::Dense(store) => store.at(level, parent, k),
             AnyStore::List(store) => store.at(level, parent, k),
             AnyStore::Packed(store) => store.at(level, parent, k),
+            AnyStore::Jagged(store) => store.at(level, parent, k),
+            AnyStore::Diagonal(store) => store.at(level, parent, k),
+            AnyStore::Permuted(store) => store.at(level, parent, k),
         }
     }
 
@@ -70,6 +89,9 @@ impl Access for AnyStore {
             AnyStore::Dense(store) => store.find(level, parent, index, steps),
             AnyStore::List(store) => store.find(level, parent, index, steps),
             AnyStore::Packed(store) => store.find(level, parent, index, steps),
+            AnyStore::Jagged(store) => store.find(level, parent, index, steps),
+            AnyStore::Diagonal(store) => store.find(level, parent, index, steps),
+            AnyStore::Permuted(store) => store.find(level, parent, index, steps),
         }
     }
 
@@ -78,6 +100,9 @@ impl Access for AnyStore {
             AnyStore::Dense(store) => store.value(leaf),
             AnyStore::List(store) => store.value(leaf),
             AnyStore::Packed(store) => store.value(leaf),
+            AnyStore::Jagged(store) => store.value(leaf),
+            AnyStore::Diagonal(store) => store.value(leaf),
+            AnyStore::Permuted(store) => store.value(leaf),
         }
     }
 
@@ -86,6 +111,9 @@ impl Access for AnyStore {
             AnyStore::Dense(store) => store.line(level, parent),
             AnyStore::List(store) => store.line(level, parent),
             AnyStore::Packed(store) => store.line(level, parent),
+            AnyStore::Jagged(store) => store.line(level, parent),
+            AnyStore::Diagonal(store) => store.line(level, parent),
+            AnyStore::Permuted(store) => store.line(level, parent),
         }
     }
 
@@ -94,6 +122,9 @@ impl Access for AnyStore {
             AnyStore::Dense(store) => store.entry(level, parent, from, place),
             AnyStore::List(store) => store.entry(level, parent, from, place),
             AnyStore::Packed(store) => store.entry(level, parent, from, place),
+            AnyStore::Jagged(store) => store.entry(level, parent, from, place),
+            AnyStore::Diagonal(store) => store.entry(level, parent, from, place),
+            AnyStore::Permuted(store) => store.entry(level, parent, from, place),
         }
     }
 }
@@ -108,14 +139,14 @@ impl Cells for AnyStore {
     fn cell(&self, element: u32) -> Val {
         match self {
             AnyStore::Dense(store) => store.cell(element),
-            AnyStore::List(_) | AnyStore::Packed(_) => unreachable!(),
+            _ => unreachable!(),
         }
     }
 
     fn set(&mut self, element: u32, value: Val) {
         match self {
             AnyStore::Dense(store) => store.set(element, value),
-            AnyStore::List(_) | AnyStore::Packed(_) => unreachable!(),
+            _ => unreachable!(),
         }
     }
 }

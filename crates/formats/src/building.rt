@@ -1,6 +1,8 @@
-ghost use Rattle.std.specs.Prelude.{◌≡◌, ℕ, List, Some, None, IfOk};
+ghost use Rattle.std.specs.Prelude.{◌≡◌, ℕ, List, Some, None, IfOk, false};
+ghost use Rattle.bern_base.specs.declared.axes.Axis.TheVariants as axis;
+ghost use Rattle.bern_base.specs.declared.shape.Shape.TheVariants as shape;
 ghost use Rattle.format_model.specs.Trees.{Describes};
-ghost use Rattle.formats.specs.Builds.{CanBuild, CanDense, CanList, CanPack, part_grid};
+ghost use Rattle.formats.specs.Builds.{CanBuild, CanDense, CanDiagonal, CanList, CanPack, CanPermute, part_grid};
 ghost use Rattle.stores_flat.specs.Dense.{dense_shape, grid_of};
 ghost use Rattle.stores_flat.specs.Lists.{flat_shape};
 ghost use Rattle.stores_packed.specs.Packed.{packed_shape};
@@ -12,13 +14,15 @@ use placement::Part;
 use std::alloc::Global;
 use stores_flat::{DenseStore, ListStore};
 use stores_packed::PackedStore;
+use stores_shaped::{DiagonalStore, JaggedStore, PermutedStore};
 
 /// The store of a part in a format, row and column indices being the part's own. `order` is the order of all rows of the
 /// array for a permute format, and is not looked at otherwise.
 ///
 /// Entries are not held twice: the store takes at most 12 bytes an entry (16 in a list of two-dimensional entries), 4 a line
-/// of a dense outer level, 8 a line of a packed one, and 8 an element where all levels are dense. Linear in the entries, and
-/// in the lines or elements of dense levels.
+/// of a dense outer level, 8 a line of a packed one, 12 a row of a jagged, diagonal or permute format, and 8 an element where
+/// all levels are dense or on the listed diagonals. Linear in the entries, and in the lines or elements of dense levels, but for
+/// one sort of a jagged format's rows.
 pub fn build(
     alloc: Global,
     format: &FormatDecl,
@@ -39,7 +43,9 @@ pub fn build(
         Shape::PackedOne => packed(alloc, matrix, Axis::Row, false, true),
         Shape::DensePacked(outer) => packed(alloc, matrix, *outer, true, false),
         Shape::PackedPacked(outer) => packed(alloc, matrix, *outer, false, false),
-        Shape::Jagged | Shape::Diagonal(_) | Shape::Permute(_) => unreachable!(),
+        Shape::Jagged => jagged(alloc, matrix),
+        Shape::Diagonal(offsets) => diagonal(alloc, matrix, &part.globals, offsets),
+        Shape::Permute(_) => permuted(alloc, matrix, &part.globals, order),
     }
 }
 
@@ -81,6 +87,52 @@ fn packed(
 {
     match PackedStore::build(alloc, part, outer, outer_dense, single) {
         Ok(store) => Ok(AnyStore::Packed(store)),
+        Err(NoMemory) => Err(NoMemory),
+    }
+}
+
+fn jagged(alloc: Global, part: &Matrix) -> Result<AnyStore, NoMemory>
+    requires can { CanPack axis.Row false part.now }
+    ensures describes { IfOk result (λ s. (globals order : List ℕ) →
+        Describes (⟦<AnyStore as Access>⟧.tree s) shape.Jagged globals order part.now) }
+    ensures grid { IfOk result (λ s. ⟦<AnyStore as Cells>⟧.grid s ≡ None) }
+{
+    match JaggedStore::build(alloc, part) {
+        Ok(store) => Ok(AnyStore::Jagged(store)),
+        Err(NoMemory) => Err(NoMemory),
+    }
+}
+
+fn diagonal(
+    alloc: Global,
+    part: &Matrix,
+    globals: &Items<u32>,
+    offsets: &Items<i64>,
+) -> Result<AnyStore, NoMemory>
+    requires can { CanDiagonal offsets.now globals.now part.now }
+    ensures describes { IfOk result (λ s. (order : List ℕ) →
+        Describes (⟦<AnyStore as Access>⟧.tree s) (shape.Diagonal offsets.now) globals.now order part.now) }
+    ensures grid { IfOk result (λ s. ⟦<AnyStore as Cells>⟧.grid s ≡ None) }
+{
+    match DiagonalStore::build(alloc, part, globals, offsets) {
+        Ok(store) => Ok(AnyStore::Diagonal(store)),
+        Err(NoMemory) => Err(NoMemory),
+    }
+}
+
+fn permuted(
+    alloc: Global,
+    part: &Matrix,
+    globals: &Items<u32>,
+    order: &Items<u32>,
+) -> Result<AnyStore, NoMemory>
+    requires can { CanPermute globals.now order.now part.now }
+    ensures describes { IfOk result (λ s. (file : List ℕ) →
+        Describes (⟦<AnyStore as Access>⟧.tree s) (shape.Permute file) globals.now order.now part.now) }
+    ensures grid { IfOk result (λ s. ⟦<AnyStore as Cells>⟧.grid s ≡ None) }
+{
+    match PermutedStore::build(alloc, part, globals, order) {
+        Ok(store) => Ok(AnyStore::Permuted(store)),
         Err(NoMemory) => Err(NoMemory),
     }
 }

@@ -9,11 +9,13 @@ mod building;
 mod checks;
 mod digits;
 mod filled;
+mod laws;
 mod order;
 mod statistics;
 
 pub use any_store::AnyStore;
 pub use building::build;
 pub use checks::{check_astray, check_shape, check_sizes};
+pub use laws::{a_set_store_describes_the_changed_part, admitted_parts_can_be_built};
 pub use order::{OrderError, check_order};
 pub use statistics::stats;

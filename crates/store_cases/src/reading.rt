@@ -1,15 +1,16 @@
+ghost use Rattle.std.specs.Prelude.{◌≡◌, ◌<◌};
 ghost use Rattle.format_model.specs.Trees.{IsParent};
 
 use access_joins::Access;
 use bern_base::{Axis, NoMemory, Steps};
 use std::alloc::Global;
-use std::sync::ledger::Ledger;
+use std::sync::ledger::{Blank, Ledger};
 
 /// An outer index, an inner one (0 in a store of one level) and the value there.
 pub type Path = (u64, u64, u64);
 
 /// All paths of a store, in its order, by `at`.
-pub fn paths<A: Access>(alloc: Global, store: &A) -> Result<Vec<Path>, NoMemory> {
+fn paths<A: Access>(alloc: Global, store: &A) -> Result<Vec<Path>, NoMemory> {
     let mut paths = Vec::new(alloc);
     for k in 0..store.count(0, 0) {
         let (outer, node) = store.at(0, 0, k);
@@ -38,7 +39,7 @@ fn add_line<A: Access>(
 }
 
 /// The same paths, by `line` and `entry`.
-pub fn entries<A: Access>(alloc: Global, store: &A) -> Result<Vec<Path>, NoMemory> {
+fn entries<A: Access>(alloc: Global, store: &A) -> Result<Vec<Path>, NoMemory> {
     let mut paths = Vec::new(alloc);
     let line = store.line(0, 0);
     for place in line.from..line.to {
@@ -69,7 +70,7 @@ fn add_entries<A: Access>(
 }
 
 /// The value that searches find at a row and a column, in a part with so many columns.
-pub fn found<A: Access, L: Ledger>(
+fn found<A: Access, L: Ledger>(
     store: &A,
     row: u32,
     col: u32,
@@ -92,4 +93,51 @@ fn index_on(axis: Axis, row: u32, col: u32, cols: u32) -> u64 {
         Axis::Col => col as u64,
         Axis::Both => row as u64 * cols as u64 + col as u64,
     }
+}
+
+/// What searches find at each element, row after row; 9 where nothing is stored.
+fn searched<A: Access, L: Ledger>(
+    alloc: Global,
+    store: &A,
+    rows: u32,
+    cols: u32,
+    blank: Blank,
+) -> Result<Vec<u64>, NoMemory>
+    requires name { blank.name ≡ L.name }
+    requires parts { blank.parts ≡ L.parts }
+    requires some { 0 < blank.parts }
+{
+    let mut steps: Steps<L> = Steps::start(blank);
+    let mut values = Vec::new(alloc);
+    for row in 0..rows {
+        for col in 0..cols {
+            values.push(found(store, row, col, cols, &mut steps).unwrap_or(9))?;
+        }
+    }
+    Ok(values)
+}
+
+/// Whether a store of so many rows and columns is read back by these paths, by `at` as by `entry`, and searches find these values,
+/// row after row, with 9 where nothing is stored.
+pub fn reads_as<A: Access, L: Ledger>(
+    alloc: Global,
+    store: &A,
+    rows: u32,
+    cols: u32,
+    expected: &[Path],
+    values: &[u64],
+    blank: Blank,
+) -> Result<bool, NoMemory>
+    requires name { blank.name ≡ L.name }
+    requires parts { blank.parts ≡ L.parts }
+    requires some { 0 < blank.parts }
+{
+    let by_places = paths(alloc, store)?;
+    let by_lines = entries(alloc, store)?;
+    let by_searches = searched::<A, L>(alloc, store, rows, cols, blank)?;
+    Ok(
+        by_places.as_slice() == expected
+            && by_lines.as_slice() == expected
+            && by_searches.as_slice() == values,
+    )
 }

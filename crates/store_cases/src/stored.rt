@@ -1,17 +1,14 @@
 ghost use Rattle.std.specs.Prelude.{◌≡◌, ◌<◌, ℕ, List, true, IfOk};
 ghost use Rattle.format_model.specs.Laws.{Suits};
-ghost use Rattle.formats.specs.Builds.{is_built};
-ghost use Rattle.store_cases.specs.Small.{IsSmall};
+ghost use Rattle.store_cases.specs.Small.{IsSmall, is_free};
 
-use crate::reading::{Path, entries, found, paths};
-use bern_base::{
-    Axis, Entry, FormatDecl, Items, Matrix, NoMemory, Shape, Steps, Text, Val, is_matrix,
-};
+use crate::reading::{Path, reads_as};
+use bern_base::{Axis, Entry, FormatDecl, Items, Matrix, NoMemory, Shape, Text, Val, is_matrix};
 use formats::{AnyStore, build};
 use placement::Part;
 use std::alloc::Global;
 use std::marker::Brand;
-use std::sync::ledger::{Blank, Ledger};
+use std::sync::ledger::Blank;
 use std::test::Fail;
 
 fn entry(row: u32, col: u32, value: u64) -> Entry {
@@ -53,7 +50,7 @@ fn square(alloc: Global) -> Result<Matrix, Fail>
 }
 
 fn store_of(alloc: Global, shape: Shape, matrix: Matrix) -> Result<AnyStore, NoMemory>
-    requires built { is_built shape ≡ true }
+    requires free { is_free shape ≡ true }
     requires suits { (globals order : List ℕ) → Suits shape globals order matrix }
     requires small { IsSmall matrix }
 {
@@ -66,28 +63,6 @@ fn store_of(alloc: Global, shape: Shape, matrix: Matrix) -> Result<AnyStore, NoM
     build(alloc, &format, &part, &Items::new(alloc))
 }
 
-/// What searches find at each element, row after row; 9 where nothing is stored.
-fn searched<L: Ledger>(
-    alloc: Global,
-    store: &AnyStore,
-    rows: u32,
-    cols: u32,
-    blank: Blank,
-) -> Result<Vec<u64>, NoMemory>
-    requires name { blank.name ≡ L.name }
-    requires parts { blank.parts ≡ L.parts }
-    requires some { 0 < blank.parts }
-{
-    let mut steps: Steps<L> = Steps::start(blank);
-    let mut values = Vec::new(alloc);
-    for row in 0..rows {
-        for col in 0..cols {
-            values.push(found(store, row, col, cols, &mut steps).unwrap_or(9))?;
-        }
-    }
-    Ok(values)
-}
-
 /// Whether a matrix in a format is read back by these paths, by `at` as by `entry`, and searches find these values.
 fn reads_back(
     alloc: Global,
@@ -96,20 +71,13 @@ fn reads_back(
     expected: &[Path],
     values: &[u64],
 ) -> Result<bool, NoMemory>
-    requires built { is_built shape ≡ true }
+    requires free { is_free shape ≡ true }
     requires suits { (globals order : List ℕ) → Suits shape globals order matrix }
     requires small { IsSmall matrix }
 {
     let (rows, cols) = (matrix.rows, matrix.cols);
     let store = store_of(alloc, shape, matrix)?;
-    let by_places = paths(alloc, &store)?;
-    let by_lines = entries(alloc, &store)?;
-    let by_searches = searched::<Brand>(alloc, &store, rows, cols, Blank::new(1))?;
-    Ok(
-        by_places.as_slice() == expected
-            && by_lines.as_slice() == expected
-            && by_searches.as_slice() == values,
-    )
+    reads_as::<AnyStore, Brand>(alloc, &store, rows, cols, expected, values, Blank::new(1))
 }
 
 const STORED: [u64; 9] = [9, 2, 1, 9, 9, 9, 9, 5, 9];

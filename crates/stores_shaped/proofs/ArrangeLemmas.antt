@@ -103,7 +103,7 @@ filter_keeps p [] all = refl
 filter_keeps p (x ∷ xs) all =
     cond-true (p x) (x ∷ filter p xs) (filter p xs) (All-head (λ y. p y ≡ true) x xs all) ∙ ap (λ ys. x ∷ ys) (filter_keeps p xs (All-tail (λ y. p y ≡ true) x xs all))
 
-filter_drops : {X : Type 0} (p : X → Bool) (xs : List X) → All (λ x. p x ≡ false) xs → filter p xs ≡ []
+pub filter_drops : {X : Type 0} (p : X → Bool) (xs : List X) → All (λ x. p x ≡ false) xs → filter p xs ≡ []
 filter_drops p [] all = refl
 filter_drops p (x ∷ xs) all =
     cond-false (p x) (x ∷ filter p xs) (filter p xs) (All-head (λ y. p y ≡ false) x xs all) ∙ filter_drops p xs (All-tail (λ y. p y ≡ false) x xs all)
@@ -156,7 +156,7 @@ arranged_rows order m is long = record {
 pub by_place : {X : Type 0} (f : ℕ → X) (d : X) (xs : List ℕ) → map f xs ≡ map (λ k. f (get_or xs k 0)) (range_with_len 0 (length xs))
 by_place f d xs = fill_by_all (λ k. f (get_or xs k 0)) (map f xs) (length xs) d (length-map xs f) (λ k low. get_or-map f xs k 0 d low)
 
-same_lengths : {X Y Z : Type 0} (f : X → List Y) (g : X → List Z) (xs : List X) → ((x : X) → length (f x) ≡ length (g x)) → length (flat_map f xs) ≡ length (flat_map g xs)
+pub same_lengths : {X Y Z : Type 0} (f : X → List Y) (g : X → List Z) (xs : List X) → ((x : X) → length (f x) ≡ length (g x)) → length (flat_map f xs) ≡ length (flat_map g xs)
 same_lengths f g [] each = refl
 same_lengths f g (x ∷ xs) each = omega (arith, length-append (f x) (flat_map f xs), length-append (g x) (flat_map g xs), each x, same_lengths f g xs each)
 

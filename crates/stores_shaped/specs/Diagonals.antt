@@ -1,6 +1,7 @@
 -- A store of the elements on listed diagonals, row by row.
 use Rattle.std.specs.Prelude.{◌≡◌, ℕ, zero, suc, ◌+◌, ◌-◌, ◌^◌, ◌<◌, ◌≤◌, List, length, slice_index, slice_index_or, ℤ, pos, negsuc, ◌+ℤ◌, ◌<ℤ◌, ◌≤ℤ◌}
 use Rattle.std.specs.List.{All, AllPairs, sum_by}
+use Rattle.bern_base.specs.declared.limits.TheConstants.{MOST_OFFSET}
 use Rattle.bern_base.specs.declared.shape.Shape.TheVariants as shape
 use Rattle.format_model.specs.Content.{diagonal_columns}
 use Rattle.format_model.specs.Levels.{levels_of}
@@ -19,9 +20,9 @@ column_on global offset = index_of_int (pos global +ℤ offset)
 abbrev pub offset_at : List ℤ → ℕ → ℤ
 offset_at offsets k = slice_index_or offsets k (pos 0)
 
--- an offset is at most 4,194,303 to either side
+-- an offset is at most MOST_OFFSET to either side
 abbrev pub IsOffset : ℤ → Type 0
-IsOffset offset = (pos 0 ≤ℤ (offset +ℤ pos 4194303)) × (offset ≤ℤ pos 4194303)
+IsOffset offset = (pos 0 ≤ℤ (offset +ℤ pos MOST_OFFSET)) × (offset ≤ℤ pos MOST_OFFSET)
 
 -- how many elements these rows of the array have on the listed diagonals
 abbrev pub diagonal_count : ℕ → List ℤ → List ℕ → ℕ

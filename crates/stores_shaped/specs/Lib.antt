@@ -1,6 +1,9 @@
+pub mod Counts
 pub mod Crossings
 pub mod DiagonalLaws
 pub mod Diagonals
+pub mod Jagged
+pub mod JaggedLaws
 pub mod Orders
 pub mod Permuted
 pub mod PermutedLaws

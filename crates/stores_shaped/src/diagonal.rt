@@ -2,14 +2,13 @@ ghost use Rattle.std.specs.Prelude.{◌≡◌, ℕ, ◌+◌, ◌-◌, ◌^◌, �
 ghost use Rattle.std.specs.List.{All, AllPairs};
 ghost use Rattle.bern_base.specs.Matrix.{IsMatrix};
 ghost use Rattle.bern_base.specs.declared.shape.Shape.TheVariants as shape;
-ghost use Rattle.format_model.specs.Levels.{bits};
-ghost use Rattle.format_model.specs.Trees.{Describes, child_at};
-ghost use Rattle.stores_packed.specs.Packed.{placed};
+ghost use Rattle.format_model.specs.Trees.{Describes};
 ghost use Rattle.stores_shaped.specs.Crossings.{AreWindows, HasValues};
 ghost use Rattle.stores_shaped.specs.Diagonals.{IsDiagonal, IsOffset, diagonal_count, diagonal_index, diagonal_tree};
-ghost use Rattle.stores_shaped.specs.DiagonalLaws.{diagonal_is_tree};
+ghost use Rattle.stores_shaped.specs.DiagonalLaws.{columns_rise, diagonal_is_tree};
 
 use crate::crossing::{Windows, column_of, find_windows, push_crossing};
+use crate::halving::{RisingLines, search};
 use access_joins::{Access, Line};
 use bern_base::{Axis, Items, Matrix, NoMemory, Steps, Val};
 use std::alloc::Global;
@@ -67,53 +66,24 @@ impl DiagonalStore {
             values,
         })
     }
+}
 
-    /// The column of a place in the line of a row, which begins at `from`.
-    fn column(&self, row: u32, from: u32, place: u32) -> u64
-        requires row { row < length self.now.globals }
-        requires from { from ≡ slice_index self.now.starts.items row }
-        requires order { from ≤ place }
-        requires within { place < slice_index self.now.starts.items (row + 1) }
-        ensures { result ≡ diagonal_index self.now.offsets self.now.globals self.now.firsts.items self.now.starts.items row place }
-    {
+impl RisingLines for DiagonalStore {
+    ghost lines = { λ s. length s.globals };
+
+    ghost first = { λ s. λ row. slice_index s.starts.items row };
+
+    ghost end = { λ s. λ row. slice_index s.starts.items (row + 1) };
+
+    ghost index = { λ s. λ row. λ place. diagonal_index s.offsets s.globals s.firsts.items s.starts.items row place };
+
+    fn column(&self, row: u32, from: u32, place: u32) -> u64 {
         let diagonal = self.firsts[row as usize] + (place - from);
         let offset = self.offsets.as_slice()[diagonal as usize];
         column_of(self.globals.as_slice()[row as usize], offset)
     }
 
-    /// The place of a column in the line of a row, by halving: a step for each probe.
-    fn search<L: Ledger>(
-        &self,
-        row: u32,
-        line: Line,
-        index: u64,
-        steps: &mut Steps<L>,
-    ) -> Option<u32>
-        requires row { row < length self.now.globals }
-        requires from { line.from ≡ slice_index self.now.starts.items row }
-        requires to { line.to ≡ slice_index self.now.starts.items (row + 1) }
-        ensures found { result ≡ child_at (placed
-            (diagonal_index self.now.offsets self.now.globals self.now.firsts.items self.now.starts.items row)
-            line.from (line.to - line.from)) index }
-        ensures cost { steps.new ≤ steps.old + bits (line.to - line.from) }
-    {
-        let mut low = line.from;
-        let mut high = line.to;
-        'halving: while low < high {
-            steps.tick();
-            let middle = low + (high - low) / 2;
-            let here = self.column(row, line.from, middle);
-            if here == index {
-                return Some(middle);
-            }
-            if here < index {
-                low = middle + 1;
-            } else {
-                high = middle;
-            }
-        }
-        None
-    }
+    ghost rises = { λ s. λ row. λ low. columns_rise s.cols s.offsets s.globals s.firsts.items s.starts.items s.values.items s.diagonal row low };
 }
 
 /// The values of the elements, row by row.
@@ -179,7 +149,7 @@ impl Access for DiagonalStore {
         steps: &mut Steps<L>,
     ) -> Option<u32> {
         if level > 0 {
-            return self.search(parent, self.line(level, parent), index, steps);
+            return search(self, parent, self.line(level, parent), index, steps);
         }
         steps.tick();
         if index < self.globals.len() as u64 {

@@ -1,5 +1,5 @@
 use Rattle.bern_base.specs.declared.shape.Shape.TheVariants as shape
-use Rattle.formats.proofs.BuildLemmas.{dense_matrix, dense_vector, described}
+use Rattle.formats.proofs.BuildLemmas.{dense_matrix, dense_vector, described, described_diagonals, described_order, diagonal_part, permuted_part}
 use Rattle.formats.proofs.building.build.Goals as goal
 
 pub dense-requires : goal.dense-requires
@@ -36,3 +36,21 @@ returns-in-DensePacked-clause-describes c =
 pub returns-in-PackedPacked-clause-describes : goal.returns-in-PackedPacked-clause-describes
 returns-in-PackedPacked-clause-describes c =
     described c.args.format.now.shape (shape.PackedPacked c.in-PackedPacked.outer) c.args.part.now.globals c.args.order.now c.args.part.now.matrix c.packed-in-PackedPacked.result c.in-PackedPacked.is c.packed-in-PackedPacked.ensures.describes
+
+pub diagonal-requires : goal.diagonal-requires
+diagonal-requires c = record { can = diagonal_part c.args.format.now.shape c.in-Diagonal.offsets c.args.part.now.globals c.args.order.now c.args.part.now.matrix c.in-Diagonal.is c.requires }
+
+pub permuted-requires : goal.permuted-requires
+permuted-requires c = record { can = permuted_part c.args.format.now.shape c.in-Permute.field-0 c.args.part.now.globals c.args.order.now c.args.part.now.matrix c.in-Permute.is c.requires }
+
+pub returns-in-Jagged-clause-describes : goal.returns-in-Jagged-clause-describes
+returns-in-Jagged-clause-describes c =
+    described c.args.format.now.shape shape.Jagged c.args.part.now.globals c.args.order.now c.args.part.now.matrix c.jagged.result c.in-Jagged.is c.jagged.ensures.describes
+
+pub returns-in-Diagonal-clause-describes : goal.returns-in-Diagonal-clause-describes
+returns-in-Diagonal-clause-describes c =
+    described_diagonals c.args.format.now.shape c.in-Diagonal.offsets c.args.part.now.globals c.args.order.now c.args.part.now.matrix c.diagonal.result c.in-Diagonal.is c.diagonal.ensures.describes
+
+pub returns-in-Permute-clause-describes : goal.returns-in-Permute-clause-describes
+returns-in-Permute-clause-describes c =
+    described_order c.args.format.now.shape c.in-Permute.field-0 c.args.part.now.globals c.args.order.now c.args.part.now.matrix c.permuted.result c.in-Permute.is c.permuted.ensures.describes

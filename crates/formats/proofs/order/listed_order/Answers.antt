@@ -1,9 +1,9 @@
-use Rattle.std.proofs.Common.{◌≡◌, ℕ, ◌+◌, ◌<◌, ◌≤◌, List, length, get_or, take, take_all, sym, ap, ◌∙◌, subst, arith, length-set, refl, false}
+use Rattle.std.proofs.Common.{◌≡◌, ℕ, List, take, take_all, sym, ap, ◌∙◌, subst, arith, length-set, refl, false}
 use Rattle.std.specs.List.{range_with_len}
 use Rattle.std.proofs.lemmas.List.{get_or_read}
 use Rattle.std.specs.List.Sorted.{IsPermutation}
-use Rattle.formats.specs.FileRules.{listing_rule, order_in}
-use Rattle.formats.proofs.OrderLemmas.{AreListed, IsNumber, all_listed, listed_more, named_twice, no_number, numbers_more, order_more}
+use Rattle.formats.specs.FileRules.{order_in}
+use Rattle.formats.proofs.OrderLemmas.{AreListed, all_listed, listed_more, named_twice, no_number, numbers_more, order_more}
 use Rattle.formats.proofs.order.listed_order.Goals as goal
 
 pub returns-in_default-row_of-clause-order : goal.returns-in_default-row_of-clause-order

@@ -1,4 +1,4 @@
-use Rattle.std.proofs.Common.{◌≡◌, ℕ, zero, suc, ◌<◌, ◌≤◌, ◌∙◌, Some, subst, sym, arith}
+use Rattle.std.proofs.Common.{◌≡◌, ℕ, suc, ◌<◌, ◌≤◌, ◌∙◌, Some, subst, sym, arith}
 use Rattle.format_model.proofs.SearchLemmas.{child_within}
 use Rattle.format_model.specs.Trees.{IsTree, Tree, child_at, depth_of}
 use Rattle.store_cases.proofs.reading.found.Goals as goal

@@ -1,7 +1,7 @@
 use Rattle.std.proofs.Common.{◌≡◌, ◌<◌, ◌^◌, length, get_or, arith}
 use Rattle.stores_packed.proofs.TreeLemmas.{read_at}
 use Rattle.stores_shaped.proofs.CrossingLemmas.{few_offsets}
-use Rattle.stores_shaped.proofs.diagonal.DiagonalStore.column.Goals as goal
+use Rattle.stores_shaped.proofs.diagonal.DiagonalStoreRisingLines.column.Goals as goal
 
 pub overflow_add-diagonal : goal.overflow_add-diagonal
 overflow_add-diagonal c =

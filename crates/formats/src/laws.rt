@@ -1,0 +1,24 @@
+//! Laws of stores of any format. Each function does nothing: its contract is the law.
+
+ghost use Rattle.std.specs.Prelude.{◌≡◌, ℕ, List, Bool};
+ghost use Rattle.bern_base.specs.declared.axes.Axis.{Axis};
+ghost use Rattle.bern_base.specs.declared.matrix.Matrix.{Matrix};
+ghost use Rattle.format_model.specs.Trees.{Describes};
+ghost use Rattle.formats.specs.Admitted.{PartsCanBeBuilt};
+ghost use Rattle.stores_flat.specs.Changes.{SetsElement};
+ghost use Rattle.stores_flat.specs.Dense.{dense_shape};
+
+use crate::any_store::AnyStore;
+use access_joins::{Access, Cells};
+
+/// After `set` a store that had the elements of a part describes the part with that one changed.
+pub fn a_set_store_describes_the_changed_part()
+    ensures { (s t : AnyStore) (single : Bool) (outer : Axis) (old new : Matrix) (element value : ℕ) →
+        SetsElement (⟦<AnyStore as Cells>⟧.grid s) (⟦<AnyStore as Cells>⟧.grid t) single outer old new element value →
+        (globals order : List ℕ) → Describes (⟦<AnyStore as Access>⟧.tree t) (dense_shape single outer) globals order new }
+{}
+
+/// What the rules of a job and the checks of its files let through, `build` can take: the part of each rank.
+pub fn admitted_parts_can_be_built()
+    ensures { PartsCanBeBuilt }
+{}

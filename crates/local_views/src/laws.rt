@@ -1,0 +1,11 @@
+//! Laws of views. Each function does nothing: its contract is the law.
+
+ghost use Rattle.std.specs.Prelude.{◌≡◌};
+ghost use Rattle.format_model.specs.Trees.{Tree, axis_at, content};
+ghost use Rattle.local_views.specs.Views.{Cut, global_index, moved_content, view_tree};
+
+/// A view lists what its store lists, each index turned into that of the array.
+pub fn a_view_lists_its_store_in_global_indices()
+    ensures { (cut : Cut) (t : Tree) →
+        content (view_tree cut t) ≡ moved_content (global_index cut (axis_at t 0)) (global_index cut (axis_at t 1)) (content t) }
+{}

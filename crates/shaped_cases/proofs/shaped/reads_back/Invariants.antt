@@ -1,0 +1,4 @@
+use Rattle.shaped_cases.proofs.shaped.reads_back.Given as goal
+
+abbrev pub ghosts-reads_as : goal.ghosts-reads_as
+ghosts-reads_as a = record { name = a.blank.name; parts = a.blank.parts }
