@@ -1,9 +1,11 @@
 ghost use Rattle.std.specs.Prelude.{◌≡◌, ◌<◌, length, IfOk};
 
-use bern_base::{Axis, Entry, Items, MOST_RANKS, MOST_SIDE, Matrix, NoMemory, Rule, Val, is_matrix};
+use bern_base::{
+    Axis, Entry, Items, MOST_RANKS, MOST_SIDE, Matrix, NoMemory, Rule, Val, is_matrix,
+};
 use placement::{
     AnyPlace, Cyclic, Listed, ListedError, Placement, SharedPlace, blocks_are_dealt_in_turn, deal,
-    elements_are_owned_once, parts_share_a_matrix, places_are_listed, split,
+    elements_are_owned_once, parts_share_a_matrix, split,
 };
 use std::alloc::Global;
 use std::sync::Arc;
@@ -123,11 +125,7 @@ fn the_part_of_a_rank_without_indices_is_empty(rt: HostRuntime) -> Result<(), Fa
 }
 
 /// The owner and the local number of each index.
-fn seats<P: Placement>(
-    alloc: Global,
-    place: &P,
-    extent: u32,
-) -> Result<Items<(u32, u32)>, NoMemory>
+fn seats<P: Placement>(alloc: Global, place: &P, extent: u32) -> Result<Items<(u32, u32)>, NoMemory>
     requires { extent ≡ length (P.triples place.now) }
 {
     let mut seats = Items::new(alloc);
@@ -139,12 +137,7 @@ fn seats<P: Placement>(
 }
 
 /// A matrix with the value 0 at these places.
-fn listing(
-    alloc: Global,
-    rows: u32,
-    cols: u32,
-    places: &[(u32, u32)],
-) -> Result<Matrix, NoMemory> {
+fn listing(alloc: Global, rows: u32, cols: u32, places: &[(u32, u32)]) -> Result<Matrix, NoMemory> {
     let mut entries = Items::new(alloc);
     for (row, col) in places {
         entries.push(entry(*row, *col, 0))?;
@@ -156,8 +149,8 @@ fn listing(
     })
 }
 
-fn rule_of(result: Result<Listed, ListedError>) -> Option<Rule> {
-    match result {
+fn rule_of(built: Result<Listed, ListedError>) -> Option<Rule> {
+    match built {
         Ok(_) => None,
         Err(ListedError::Broken(rule)) => Some(rule),
         Err(ListedError::NoMemory) => None,
@@ -197,35 +190,30 @@ fn a_listed_place_has_its_locals_by_rising_index(rt: HostRuntime) -> Result<(), 
                 [(0, 0), (0, 1), (1, 0), (0, 2)].as_slice()
             );
             assert_eq!(rt; there_and_back(&place, 3), 3);
-            assert_eq!(rt;
-                (place.owned(0), place.owned(1), place.owned(2)),
-                (3, 1, 0)
-            );
+            assert_eq!(rt; (place.owned(0), place.owned(1), place.owned(2)), (3, 1, 0));
         }
         Err(_) => assert!(rt; false),
     }
     Ok(())
 }
 
-/// The place of this number among these, as those have it who share them.
-fn shared(
-    alloc: Global,
-    places: Items<AnyPlace>,
-    place: u32,
-) -> Result<SharedPlace, NoMemory>
-    requires { place < length places }
-{
-    Ok(SharedPlace::new(Arc::new(alloc, places)?, place))
-}
-
 #[test]
 fn a_shared_place_answers_as_the_place_within(rt: HostRuntime) -> Result<(), Fail> {
-    let mut places = Items::new(rt.alloc());
-    places.push(AnyPlace::Cyclic(Cyclic::new(10, 3, 2)))?;
     let matrix = listing(rt.alloc(), 3, 2, [(0, 0), (1, 0), (2, 1)].as_slice())?;
     assert!(rt; is_matrix(&matrix));
     match Listed::build(rt.alloc(), &matrix, 3, 2) {
-        Ok(place) => places.push(AnyPlace::Listed(place))?,
+        Ok(place) => {
+            let mut places = Items::new(rt.alloc());
+            places.push(AnyPlace::Cyclic(Cyclic::new(10, 3, 2)))?;
+            places.push(AnyPlace::Listed(place))?;
+            let places = Arc::new(rt.alloc(), places)?;
+            let other = SharedPlace::new(Arc::try_clone(&places)?, 0);
+            let place = SharedPlace::new(places, 1);
+            let seats = seats(rt.alloc(), &place, 3)?;
+            assert_eq!(rt; seats.as_slice(), [(0, 0), (0, 1), (1, 0)].as_slice());
+            assert_eq!(rt; (place.owned(0), there_and_back(&place, 2)), (2, 2));
+            assert_eq!(rt; (other.owner(7), other.local(7)), (0, 3));
+        }
         Err(_) => assert!(rt; false),
     }
     Ok(())
@@ -235,13 +223,7 @@ fn a_shared_place_answers_as_the_place_within(rt: HostRuntime) -> Result<(), Fai
 fn a_matrix_is_dealt_to_all_ranks(rt: HostRuntime) -> Result<(), Fail> {
     let matrix = sample(rt.alloc())?;
     assert!(rt; is_matrix(&matrix));
-    let parts = deal(
-        rt.alloc(),
-        &matrix,
-        &Cyclic::new(4, 2, 1),
-        Axis::Row,
-        2,
-    )?;
+    let parts = deal(rt.alloc(), &matrix, &Cyclic::new(4, 2, 1), Axis::Row, 2)?;
     let parts = parts.as_slice();
     assert_eq!(rt; parts.len(), 2);
     assert_eq!(rt;
