@@ -4,7 +4,8 @@
 #     sh check.sh [PROGRAM]
 #
 # PROGRAM is a path, and bin/bernoulli of this repository where it is left out. An example is a folder with `job.txt`;
-# `expected` is printed by a run on any number of ranks, and `expected.replay`, where it stands, by a replay on 3 ranks.
+# `expected` is printed by a run on any number of ranks, or on the one in `ranks` where a place is listed for that many, and
+# `expected.replay`, where it stands, by a replay on 3 ranks.
 # A folder of `refused/` has a job that is refused, or whose files are: `expected` is the line on the errors, for a run on
 # 2 ranks or for the words in `words`. Each line of `refused/words` is a rule and words that it refuses.
 
@@ -41,7 +42,11 @@ for job in "$here"/*/job.txt; do
     folder=$(dirname "$job")
     example=$(basename "$folder")
     cd "$folder" || exit 1
-    for ranks in 1 2 7; do
+    numbers='1 2 7'
+    if [ -f ranks ]; then
+        numbers=$(cat ranks)
+    fi
+    for ranks in $numbers; do
         expect 0 expected "$printed/nothing" run job.txt "$ranks"
     done
     if [ -f expected.replay ]; then

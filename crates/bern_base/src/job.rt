@@ -35,6 +35,8 @@ pub struct PlaceDecl {
     /// The extent, by its number.
     pub extent: u32,
     pub kind: PlaceKind,
+    /// How many arrays are declared before it: the job mentions their files before the file of the place.
+    pub arrays_before: usize,
 }
 
 /// How a place deals indices.

@@ -8,8 +8,8 @@ use Rattle.bern_base.specs.declared.refusal.Refusal.TheVariants.{File, Words}
 use Rattle.bern_base.specs.declared.refusal.Rule.{Rule}
 use Rattle.bern_base.specs.declared.refusal.Rule.TheVariants.{J1, U2}
 use Rattle.bern_ports.specs.Files.{Files, bytes_of}
-use Rattle.job_accept.proofs.AnswerLemmas.{one_built_answer}
-use Rattle.job_accept.specs.Unbuilt.{AcceptsBuilt, RefusesBuilt, RefusesBuiltAt}
+use Rattle.job_accept.proofs.AnswerLemmas.{one_bytes_answer}
+use Rattle.job_accept.specs.Front.{AcceptsBytes, RefusesAt, RefusesBytes}
 use Rattle.job_files.specs.Answers.{IsFaultAt, IsNoFault, IsRefusalOf, ReadsWhole}
 use Rattle.job_files.specs.FileOrder.{Loads}
 use Rattle.job_files.specs.Uses.{entries_in}
@@ -74,24 +74,24 @@ refusal_calm refusal (e.ReadFault file) is = absurd is
 refusal_calm refusal e.NoMemory is = tt
 
 -- bytes that are refused
-only_refused : (files : Files) (r : Request) (bytes : List ℕ) (line : ℕ) (rule : Rule) → RefusesBuiltAt bytes line rule → EndsOnly (RunsBytes files r bytes) (Refuses (File r.job line rule))
+only_refused : (files : Files) (r : Request) (bytes : List ℕ) (line : ℕ) (rule : Rule) → RefusesAt bytes line rule → EndsOnly (RunsBytes files r bytes) (Refuses (File r.job line rule))
 only_refused files r bytes line rule refused = (
   inr (line, rule, refused, refl),
   λ other. elim [
-    | inl runs ↦ absurd ((one_built_answer bytes).apart runs.0 line rule runs.1 refused)
+    | inl runs ↦ absurd ((one_bytes_answer bytes).apart runs.0 line rule runs.1 refused)
     | inr runs ↦
         runs.3
-        ∙ ap (λ l. Refuses (File r.job l runs.1)) ((one_built_answer bytes).line runs.0 line runs.1 rule runs.2 refused)
-        ∙ ap (λ k. Refuses (File r.job line k)) ((one_built_answer bytes).rule runs.0 line runs.1 rule runs.2 refused)
+        ∙ ap (λ l. Refuses (File r.job l runs.1)) ((one_bytes_answer bytes).line runs.0 line runs.1 rule runs.2 refused)
+        ∙ ap (λ k. Refuses (File r.job line k)) ((one_bytes_answer bytes).rule runs.0 line runs.1 rule runs.2 refused)
   ],
 )
 
-bytes_refused : (files : Files) (r : Request) (bytes : List ℕ) (line : ℕ) (rule : Rule) (fault : LoadError) → RefusesBuiltAt bytes line rule → IsRefusalOf (File r.job line rule) fault → AnswersBytes files r bytes (Err fault)
+bytes_refused : (files : Files) (r : Request) (bytes : List ℕ) (line : ℕ) (rule : Rule) (fault : LoadError) → RefusesAt bytes line rule → IsRefusalOf (File r.job line rule) fault → AnswersBytes files r bytes (Err fault)
 bytes_refused files r bytes line rule (e.Refused x) refused is = subst (λ t. EndsOnly (RunsBytes files r bytes) (Refuses t)) (sym is) (only_refused files r bytes line rule refused)
 bytes_refused files r bytes line rule (e.ReadFault file) refused is = absurd is
 bytes_refused files r bytes line rule e.NoMemory refused is = tt
 
-pub no_job_in : (files : Files) (r : Request) (bytes : List ℕ) (refused : CheckError) (fault : LoadError) → RefusesBuilt bytes refused → IsJobRefusal r.job refused fault → AnswersBytes files r bytes (Err fault)
+pub no_job_in : (files : Files) (r : Request) (bytes : List ℕ) (refused : CheckError) (fault : LoadError) → RefusesBytes bytes refused → IsJobRefusal r.job refused fault → AnswersBytes files r bytes (Err fault)
 no_job_in files r bytes (c.Refused line rule) fault refused is = bytes_refused files r bytes line rule fault refused is
 no_job_in files r bytes c.NoMemory fault refused is = subst (λ f. AnswersBytes files r bytes (Err f)) (sym is) tt
 
@@ -99,7 +99,7 @@ no_job_in files r bytes c.NoMemory fault refused is = subst (λ f. AnswersBytes 
 pub file_too_long : (files : Files) (r : Request) (refused : CheckError) (fault : LoadError) → ReadsWhole files r.job MOST_JOB_BYTES (Ok None) → refused ≡ c.Refused 0 J1 → IsJobRefusal r.job refused fault → AnswersRequest files r (Err fault)
 file_too_long files r refused fault long same is =
     file_there files r long.0 (Err fault) long.1 (no_job_in files r long.0 refused fault
-    (subst (RefusesBuilt long.0) (sym same) (inl (record { long = long.2; line_is = refl; rule_is = refl }))) is)
+    (subst (RefusesBytes long.0) (sym same) (inl (record { long = long.2; line_is = refl; rule_is = refl }))) is)
 
 -- the refusal of a job is no fault
 pub no_job_calm : (name : List ℕ) (refused : CheckError) (fault : LoadError) → IsJobRefusal name refused fault → IsNoFault {T = List ℕ} (Err fault)
@@ -107,14 +107,14 @@ no_job_calm name (c.Refused line rule) fault is = refusal_calm (File name line r
 no_job_calm name c.NoMemory fault is = subst (λ f. IsNoFault {T = List ℕ} (Err f)) (sym is) tt
 
 -- bytes that are accepted
-pub bytes_accepted : (files : Files) (r : Request) (bytes : List ℕ) (job : Checked) (result : Result (List ℕ) LoadError) → AcceptsBuilt bytes job → AnswersJob files r job result → AnswersBytes files r bytes result
+pub bytes_accepted : (files : Files) (r : Request) (bytes : List ℕ) (job : Checked) (result : Result (List ℕ) LoadError) → AcceptsBytes bytes job → AnswersJob files r job result → AnswersBytes files r bytes result
 bytes_accepted files r bytes job result accepted agrees =
     reaches_more (RunsBytes files r bytes) (ReachesInJob files r job) (ReachesInBytes files r bytes) result (λ n reaches. (job, accepted, reaches))
     (agrees_as (RunsJob files r job) (RunsBytes files r bytes) (ReachesInJob files r job) result
     (λ x runs. inl (job, accepted, runs))
     (λ x. elim [
-      | inl runs ↦ subst (λ j. RunsJob files r j x) ((one_built_answer bytes).job runs.0 job runs.1 accepted) runs.2
-      | inr runs ↦ absurd ((one_built_answer bytes).apart job runs.0 runs.1 accepted runs.2)
+      | inl runs ↦ subst (λ j. RunsJob files r j x) ((one_bytes_answer bytes).job runs.0 job runs.1 accepted) runs.2
+      | inr runs ↦ absurd ((one_bytes_answer bytes).apart job runs.0 runs.1 accepted runs.2)
     ])
     agrees)
 

@@ -7,7 +7,7 @@ use Rattle.bern_base.specs.declared.refusal.Refusal.TheVariants.{File, Words}
 use Rattle.bern_base.specs.declared.refusal.Rule.{Rule}
 use Rattle.bern_base.specs.declared.refusal.Rule.TheVariants.{U2}
 use Rattle.bern_ports.specs.Files.{Files, bytes_of}
-use Rattle.job_accept.specs.Unbuilt.{AcceptsBuilt, RefusesBuiltAt}
+use Rattle.job_accept.specs.Front.{AcceptsBytes, RefusesAt}
 use Rattle.job_files.specs.FileOrder.{Missing, Reaches, Refused, Stop, stop_of_files}
 use Rattle.job_files.specs.Uses.{entries_in}
 use Rattle.job_runs.specs.Texts.{replay_text, run_text}
@@ -59,8 +59,8 @@ RunsJob files r job ending = RunsBy r.seed files r job ending
 -- the bytes are an accepted job, or they are refused at their first broken rule
 abbrev pub RunsBytes : Files → Request → List ℕ → Ending → Type 0
 RunsBytes files r bytes ending =
-    ((job : Checked) × AcceptsBuilt bytes job × RunsJob files r job ending)
-    ⊎ ((line : ℕ) × (rule : Rule) × RefusesBuiltAt bytes line rule × (ending ≡ Refuses (File r.job line rule)))
+    ((job : Checked) × AcceptsBytes bytes job × RunsJob files r job ending)
+    ⊎ ((line : ℕ) × (rule : Rule) × RefusesAt bytes line rule × (ending ≡ Refuses (File r.job line rule)))
 
 -- the request ends so: its job file is not there, or it runs its bytes
 abbrev pub Runs : Files → Request → Ending → Type 0
@@ -81,7 +81,7 @@ abbrev pub ReachesInJob : Files → Request → Checked → List ℕ → Type 0
 ReachesInJob files r job name = IsLoadedBy r.seed job × Reaches files r.ranks job name
 
 abbrev pub ReachesInBytes : Files → Request → List ℕ → List ℕ → Type 0
-ReachesInBytes files r bytes name = (job : Checked) × AcceptsBuilt bytes job × ReachesInJob files r job name
+ReachesInBytes files r bytes name = (job : Checked) × AcceptsBytes bytes job × ReachesInJob files r job name
 
 -- the names that the request reaches: the job, and where it is accepted those of its files
 abbrev pub ReachesFile : Files → Request → List ℕ → Type 0

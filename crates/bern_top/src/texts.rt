@@ -8,7 +8,7 @@ ghost use Rattle.bern_top.specs.Requests.{request};
 
 use bern_base::{Checked, MOST_JOB_BYTES, MOST_RANKS, Rule, Text};
 use bern_ports::Shelf;
-use job_accept::{take_built_job, too_long};
+use job_accept::{take_job, too_long};
 use job_files::{LoadError, load_arrays, read_file, refusal};
 use job_rules::CheckError;
 use job_runs::{replay_text, run_text};
@@ -51,7 +51,7 @@ fn text_of_bytes<F: Shelf>(
     ensures cause { HasFaultCause (shelf_state F.Shelf shelf.old) (shelf_state F.Shelf shelf.new) result }
     ensures told { IfSome (F.files shelf.old) (λ fs. AnswersBytes fs (request name.now ranks seed) bytes.now result) }
 {
-    match take_built_job(alloc, bytes) {
+    match take_job(alloc, bytes) {
         Ok(job) => text_of_job(alloc, name, &job, ranks, seed, shelf),
         Err(refused) => Err(no_job(alloc, name, refused)),
     }

@@ -1,6 +1,6 @@
 use bern_base::{
-    ArrayDecl, Axis, Checked, Entry, FormatDecl, Items, Matrix, NoMemory, Refusal, Rule, Shape,
-    Text, Val,
+    ArrayDecl, Axis, Checked, Entry, ExtentDecl, FormatDecl, Items, Matrix, NoMemory, PlaceDecl,
+    PlaceKind, Refusal, Rule, Shape, Text, Val,
 };
 use bern_ports::{MemShelf, are_once};
 use job_files::{LoadError, load_arrays, weight_within};
@@ -395,6 +395,103 @@ fn an_order_of_rows_is_read_before_its_array(rt: HostRuntime) -> Result<(), Fail
         }
         let mut shelf = shelf(alloc)?.ok_or("a name stands twice")?;
         let answer = load_arrays(alloc, &name, &job, 3, &mut shelf);
+        assert!(rt; is_as(&answer, outcome));
+    }
+    Ok(())
+}
+
+/// How many ranks there are, what an array without a file weighs, the file of a place of 2 indices and how many arrays are
+/// declared before it, the file, the rows and the columns of the arrays after the first one, and the answer.
+const PLACED: &[(u32, u32, (&[u8], usize), &[(&[u8], u32, u32)], Outcome)] = &[
+    (1, LIMIT - 2, (b"pair", 1), &[], Outcome::Loaded),
+    (
+        1,
+        LIMIT - 1,
+        (b"pair", 1),
+        &[],
+        Outcome::Refused(b"pair", 0, Rule::F7),
+    ),
+    (
+        1,
+        LIMIT - 3,
+        (b"pair", 1),
+        &[(b"pair", 2, 1)],
+        Outcome::Refused(b"pair", 0, Rule::F7),
+    ),
+    (
+        1,
+        1,
+        (b"a", 1),
+        &[(b"broken", 2, 1)],
+        Outcome::Refused(b"a", 0, Rule::F4),
+    ),
+    (
+        1,
+        1,
+        (b"a", 2),
+        &[(b"broken", 2, 1)],
+        Outcome::Refused(b"broken", 4, Rule::M10),
+    ),
+    (
+        3,
+        1,
+        (b"pair", 1),
+        &[(b"pair", 2, 2)],
+        Outcome::Refused(b"pair", 0, Rule::F6),
+    ),
+    (
+        3,
+        1,
+        (b"pair", 2),
+        &[(b"pair", 2, 2)],
+        Outcome::Refused(b"pair", 0, Rule::F1),
+    ),
+];
+
+/// A place of 2 indices that a file lists, declared after so many arrays.
+fn add_place(
+    alloc: Global,
+    job: &mut Checked,
+    file: &[u8],
+    arrays_before: usize,
+) -> Result<(), NoMemory> {
+    job.extents.push(ExtentDecl {
+        name: Text::from_bytes(alloc, b"n")?,
+        size: 2,
+    })?;
+    job.places.push(PlaceDecl {
+        name: Text::from_bytes(alloc, b"p")?,
+        extent: 0,
+        kind: PlaceKind::Listed(Text::from_bytes(alloc, file)?),
+        arrays_before,
+    })
+}
+
+#[test]
+fn the_file_of_a_place_is_read_at_its_line(rt: HostRuntime) -> Result<(), Fail> {
+    let alloc = rt.alloc();
+    let name = Text::from_bytes(alloc, b"job")?;
+    for (ranks, weight, (file, arrays_before), arrays, outcome) in PLACED {
+        let mut job = no_arrays(alloc);
+        add_place(alloc, &mut job, file, *arrays_before)?;
+        add_array(
+            alloc,
+            &mut job,
+            &Words::DenseOne,
+            (*weight, 1, Axis::Row),
+            b"",
+        )?;
+        for (file, rows, cols) in arrays.iter() {
+            add_array(
+                alloc,
+                &mut job,
+                &Words::ListTwo,
+                (*rows, *cols, Axis::Row),
+                file,
+            )?;
+        }
+        let mut shelf = shelf(alloc)?.ok_or("a name stands twice")?;
+        let answer = load_arrays(alloc, &name, &job, *ranks, &mut shelf);
         assert!(rt; is_as(&answer, outcome));
     }
     Ok(())

@@ -58,7 +58,7 @@ job_is = record {
   };
   array = array_of_two 1 1 0;
   array_is = refl;
-  place = record { name = []; extent = 0; kind = Block };
+  place = record { name = []; extent = 0; kind = Block; arrays_before = 0 };
   place_is = refl;
   extent = record { name = []; size = 2 };
   extent_is = refl;

@@ -52,7 +52,7 @@ nest_of_two = record {
 abbrev pub job_of_two : Checked
 job_of_two = record {
   extents = record { name = []; size = 2 } ∷ [];
-  places = record { name = []; extent = 0; kind = Block } ∷ [];
+  places = record { name = []; extent = 0; kind = Block; arrays_before = 0 } ∷ [];
   formats = record { name = []; shape = shape.DenseOne } ∷ record { name = []; shape = shape.ListTwo } ∷ [];
   arrays = array_of_two 1 1 0 ∷ array_of_two 1 1 0 ∷ array_of_two 2 2 1 ∷ [];
   nests = nest_of_two ∷ [];

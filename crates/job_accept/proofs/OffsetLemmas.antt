@@ -1,5 +1,5 @@
 -- The offsets of the diagonal formats of an accepted job rise: the grammar has no others, and the rules keep them.
-use Rattle.std.proofs.Common.{◌≡◌, ℕ, zero, suc, ◌<◌, List, [], ◌∷◌, length, get_or, Option, Some, None, ℤ, subst, sym, arith}
+use Rattle.std.proofs.Common.{ℕ, zero, suc, ◌<◌, List, [], ◌∷◌, length, get_or, Option, Some, None, ℤ, subst, sym, arith}
 use Rattle.std.specs.Prelude.{◌<ℤ◌}
 use Rattle.std.specs.Cmp.{int_chain}
 use Rattle.std.specs.List.{All, AllPairs}

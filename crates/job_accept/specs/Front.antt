@@ -36,3 +36,13 @@ SaysWhere At error.NoMemory = Unit {0}
 
 abbrev pub RefusesBytes : List ℕ → CheckError → Type 0
 RefusesBytes bytes answer = SaysWhere (RefusesAt bytes) answer
+
+-- bytes have one answer: one job, or one line and rule, and never both
+pub record HasOneAnswer (bytes : List ℕ) : Type 0 where
+  pub job : (a b : Checked) → AcceptsBytes bytes a → AcceptsBytes bytes b → a ≡ b
+  pub line : (a b : ℕ) (r s : Rule) → RefusesAt bytes a r → RefusesAt bytes b s → a ≡ b
+  pub rule : (a b : ℕ) (r s : Rule) → RefusesAt bytes a r → RefusesAt bytes b s → r ≡ s
+  pub apart : (a : Checked) (b : ℕ) (s : Rule) → AcceptsBytes bytes a → ¬ (RefusesAt bytes b s)
+
+abbrev pub BytesHaveOneAnswer : Type 0
+BytesHaveOneAnswer = (bytes : List ℕ) → HasOneAnswer bytes

@@ -1,9 +1,7 @@
 ghost use Rattle.std.specs.Prelude.{◌≡◌, IfOk, IfErr};
 ghost use Rattle.job_model.specs.Accepted.{IsAccepted};
 ghost use Rattle.job_accept.specs.Front.{IsReadAs, IsTooLong, SaysWhere, AcceptsBytes, RefusesBytes};
-ghost use Rattle.job_accept.specs.Unbuilt.{AcceptsBuilt, RefusesBuilt};
 
-use crate::unbuilt::check_built;
 use bern_base::{Checked, JobText, Rule};
 use job_rules::{CheckError, check_job};
 use job_text::{JobError, read_job};
@@ -16,23 +14,10 @@ use std::alloc::Global;
 pub fn take_job(alloc: Global, bytes: &[u8]) -> Result<Checked, CheckError>
     ensures accepted { IfOk result (AcceptsBytes bytes.now) }
     ensures refused { IfErr result (RefusesBytes bytes.now) }
-{
-    match read_text(alloc, bytes) {
-        Ok(text) => check_job(alloc, &text),
-        Err(refused) => Err(refused),
-    }
-}
-
-/// Takes a job as [`take_job`] does, while some forms are not built yet.
-///
-/// The first line of such a form, a `place` with `listed`, is refused by U2, which comes right after J2 on its line.
-pub fn take_built_job(alloc: Global, bytes: &[u8]) -> Result<Checked, CheckError>
-    ensures accepted { IfOk result (AcceptsBuilt bytes.now) }
-    ensures refused { IfErr result (RefusesBuilt bytes.now) }
     ensures keeps { IfOk result IsAccepted }
 {
     match read_text(alloc, bytes) {
-        Ok(text) => check_built(alloc, &text),
+        Ok(text) => check_job(alloc, &text),
         Err(refused) => Err(refused),
     }
 }

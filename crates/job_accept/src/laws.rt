@@ -1,14 +1,13 @@
 ghost use Rattle.std.specs.Prelude.{ℕ, List};
 ghost use Rattle.bern_base.specs.declared.job.Checked.{Checked};
 ghost use Rattle.job_model.specs.Accepted.{IsAccepted};
-ghost use Rattle.job_accept.specs.Front.{AcceptsBytes};
+ghost use Rattle.job_accept.specs.Front.{AcceptsBytes, BytesHaveOneAnswer};
 ghost use Rattle.job_accept.specs.Offsets.{OffsetsRise};
-ghost use Rattle.job_accept.specs.Unbuilt.{BuiltBytesHaveOneAnswer};
 
-/// The law that bytes have one answer of [`take_built_job`](crate::take_built_job): one job, or one line and rule, and
-/// never both. It does nothing.
-pub fn built_bytes_have_one_answer()
-    ensures { BuiltBytesHaveOneAnswer }
+/// The law that bytes have one answer of [`take_job`](crate::take_job): one job, or one line and rule, and never both. It
+/// does nothing.
+pub fn bytes_have_one_answer()
+    ensures { BytesHaveOneAnswer }
 {}
 
 /// The law that what bytes are accepted as keeps all rules: its numbers name items of its own lists, sizes and counts are

@@ -5,9 +5,6 @@
 
 mod front;
 mod laws;
-mod unbuilt;
 
-pub use front::{take_built_job, take_job, too_long};
-pub use laws::{
-    accepted_bytes_keep_the_rules, built_bytes_have_one_answer, offsets_of_diagonals_rise,
-};
+pub use front::{take_job, too_long};
+pub use laws::{accepted_bytes_keep_the_rules, bytes_have_one_answer, offsets_of_diagonals_rise};

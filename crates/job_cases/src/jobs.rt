@@ -1,12 +1,12 @@
 use bern_base::{Axis, MOST_JOB_BYTES, Rule};
-use job_accept::{take_built_job, take_job};
+use job_accept::take_job;
 use job_rules::CheckError;
 use std::alloc::Global;
 use std::test::Fail;
 
-/// The line and the rule by which a text is refused, if it is, while some forms are not built yet.
+/// The line and the rule by which a text is refused, if it is.
 fn refusal_of(alloc: Global, text: &[u8]) -> Result<Option<(u64, Rule)>, Fail> {
-    match take_built_job(alloc, text) {
+    match take_job(alloc, text) {
         Ok(_) => Ok(None),
         Err(CheckError::Refused { line, rule }) => Ok(Some((line, rule))),
         Err(CheckError::NoMemory) => Err(Fail::from(CheckError::NoMemory)),
@@ -14,33 +14,18 @@ fn refusal_of(alloc: Global, text: &[u8]) -> Result<Option<(u64, Rule)>, Fail> {
 }
 
 #[test]
-fn the_first_line_that_is_refused_is_told_and_on_one_line_u2(rt: HostRuntime) -> Result<(), Fail> {
-    let cases: [(&'static [u8], Option<(u64, Rule)>); 10] = [
-        (
-            b"extent n 3\nplace l n listed owners.txt\n",
-            Some((2, Rule::U2)),
-        ),
+fn the_first_line_that_is_refused_is_told(rt: HostRuntime) -> Result<(), Fail> {
+    let cases: [(&'static [u8], Option<(u64, Rule)>); 7] = [
+        (b"extent n 3\nplace l n listed owners.txt\n", None),
         (b"format d diagonal -1 0 1\n", None),
         (b"format s permute order.txt row dense > col packed\n", None),
         (
-            b"\nextent n 3\nformat d diagonal 0\nplace l n listed owners.txt\n",
-            Some((4, Rule::U2)),
-        ),
-        (
             b"extent n 3\nplace n n listed owners.txt\n",
-            Some((2, Rule::U2)),
+            Some((2, Rule::J3)),
         ),
         (
             b"extent n 3\nplace l n listed owners.txt\nextent\n",
-            Some((2, Rule::U2)),
-        ),
-        (
-            b"print W\nplace l n listed owners.txt\n",
-            Some((1, Rule::J4)),
-        ),
-        (
-            b"extent\nplace l n listed owners.txt\n",
-            Some((1, Rule::J2)),
+            Some((3, Rule::J2)),
         ),
         (b"extent n 3\n\nprint W\nextent\n", Some((3, Rule::J4))),
         (b"", None),
@@ -48,6 +33,17 @@ fn the_first_line_that_is_refused_is_told_and_on_one_line_u2(rt: HostRuntime) ->
     for (text, refusal) in cases {
         assert_eq!(&rt; refusal_of(rt.alloc(), text)?, refusal);
     }
+    Ok(())
+}
+
+#[test]
+fn a_place_has_the_number_of_arrays_before_it(rt: HostRuntime) -> Result<(), Fail> {
+    let text =
+        b"extent n 3\nplace p n listed o.mtx\nformat vec row dense\narray X n vec row by p zero\narray Y n vec row by p zero\nplace q n block\n";
+    let job = take_job(rt.alloc(), text)?;
+    let first = job.places.get(0).ok_or("no place")?;
+    let second = job.places.get(1).ok_or("no place")?;
+    assert_eq!(&rt; (first.arrays_before, second.arrays_before), (0, 2));
     Ok(())
 }
 

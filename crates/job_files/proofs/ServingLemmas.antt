@@ -167,6 +167,7 @@ none_first (Some rule) two is = absurd cc
 -- a matrix that breaks no rule in a use suits it
 suits : (m : Matrix) (u : Use) → broken_rule m u ≡ None → Suits u m
 suits m (by.Order file rows) is = is
+suits m (by.Place file extent ranks) is = is
 suits m (by.Array file rows cols diagonals) is = at (has_sizes rows cols m) refl (none_first (sizes_rule rows cols m) (astray_rule diagonals m) is).0
   where
     at : (same : Bool) → has_sizes rows cols m ≡ same → (if same then None else Some F1) ≡ None → (m.rows ≡ rows) × (m.cols ≡ cols)

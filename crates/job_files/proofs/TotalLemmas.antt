@@ -18,8 +18,9 @@ use Rattle.bern_base.specs.declared.limits.TheConstants.{MOST_WEIGHT}
 use Rattle.mm_profile.specs.Profile.{Fault, mm, and_then}
 use Rattle.job_files.specs.declared.uses.Use.{Use}
 use Rattle.job_files.specs.declared.uses.Use.TheVariants as by
-use Rattle.job_files.specs.Uses.{entries_from, entries_in, entries_of, entries_read, file_of, is_of, matrices_from, matrix_from, mentioned, diagonals_of, file_use, order_of, order_use, uses_of}
+use Rattle.job_files.specs.Uses.{entries_from, entries_in, entries_of, entries_read, file_of, is_of, matrices_from, matrix_from, mentioned, diagonals_of, file_use, is_array}
 use Rattle.job_files.specs.FileOrder.{Refused, Stop, added, first_broken, found, has, judged, stop_of, stop_of_uses, weight_after, weight_with, within_limit}
+use Rattle.job_files.proofs.ArrayLemmas.{own_uses}
 use Rattle.job_files.proofs.MentionLemmas.{all_new, filter_filter, is_new, is_other}
 
 -- how many entries a file has; none where it has no matrix
@@ -152,11 +153,17 @@ total files uses [] weight now later =
 total files uses (name ∷ names) weight now later =
     total_at files uses weight now name names (weight_with files uses weight name) refl (λ sum later. total files uses names sum now later) later
 
--- what an order of rows adds is added to what the other uses add
-of_order : (files : Files) (array : ArrayDecl) (order : Option (List ℕ)) (own uses : List Use) → by_use (entries files) (is_new []) (own ++ uses) ≤ by_use (entries files) (is_new []) ((order_use array order ++ own) ++ uses)
-of_order files array None own uses = omega arith
-of_order files array (Some file) own uses =
-    let sum = sum_by-cons (λ w. cond (is_new [] (file_of w)) (entries files (file_of w)) 0) (by.Order file array.rows) (own ++ uses) in omega (arith, sum)
+-- some of the uses add no more than all
+of_some : (files : Files) (p : Use → Bool) (uses : List Use) → by_use (entries files) (is_new []) (filter p uses) ≤ by_use (entries files) (is_new []) uses
+of_some files p [] = omega arith
+of_some files p (u ∷ uses) =
+    let f : Use → ℕ = λ w. cond (is_new [] (file_of w)) (entries files (file_of w)) 0 in
+    let later : by_use (entries files) (is_new []) (filter p uses) ≤ by_use (entries files) (is_new []) uses = of_some files p uses in
+    let all : sum_by f (u ∷ uses) ≡ f u + sum_by f uses = sum_by-cons f u uses in
+    elim (p u) as (λ b. sum_by f (cond b (u ∷ filter p uses) (filter p uses)) ≤ sum_by f (u ∷ uses)) [
+      | true ↦ (let some : sum_by f (u ∷ filter p uses) ≡ f u + sum_by f (filter p uses) = sum_by-cons f u (filter p uses) in omega (arith, some, all, later))
+      | false ↦ omega (arith, all, later)
+    ]
 
 -- the matrices of the arrays have no more than what the files of their uses add
 of_array : (files : Files) (array : ArrayDecl) (diagonals : Option (List ℤ)) (uses : List Use) (file : Option (List ℕ)) (sum : ℕ) → sum ≤ by_use (entries files) (is_new []) uses →
@@ -165,23 +172,18 @@ of_array files array diagonals uses None sum is = omega (arith, is)
 of_array files array diagonals uses (Some file) sum is =
     let all = sum_by-cons (λ w. cond (is_new [] (file_of w)) (entries files (file_of w)) 0) (by.Array file array.rows array.cols diagonals) uses in omega (arith, is, all)
 
-of_arrays : (files : Files) (formats : List FormatDecl) (arrays : List ArrayDecl) → sum_by (λ m. length m.entries) (matrices_from (entries_in files) arrays) ≤ by_use (entries files) (is_new []) (uses_of formats arrays)
+of_arrays : (files : Files) (formats : List FormatDecl) (arrays : List ArrayDecl) → sum_by (λ m. length m.entries) (matrices_from (entries_in files) arrays) ≤ by_use (entries files) (is_new []) (own_uses formats arrays)
 of_arrays files formats [] = omega arith
 of_arrays files formats (array ∷ arrays) =
     let rest : ℕ = sum_by (λ m. length m.entries) (matrices_from (entries_in files) arrays) in
-    let own : List Use = file_use array (diagonals_of formats array) array.file in
     let all = sum_by-cons (λ m. length m.entries) (matrix_from (entries_in files) array) (matrices_from (entries_in files) arrays) in
-    let here = of_array files array (diagonals_of formats array) (uses_of formats arrays) array.file rest (of_arrays files formats arrays) in
-    let order = of_order files array (order_of formats array) own (uses_of formats arrays) in
-    omega (arith, all, here, order)
+    let here = of_array files array (diagonals_of formats array) (own_uses formats arrays) array.file rest (of_arrays files formats arrays) in
+    omega (arith, all, here)
 
-pub arrays_keep : (files : Files) (weight : ℕ) (formats : List FormatDecl) (arrays : List ArrayDecl) → weight ≤ MOST_WEIGHT → stop_of_uses files weight (uses_of formats arrays) ≡ None →
+pub arrays_keep : (files : Files) (weight : ℕ) (formats : List FormatDecl) (arrays : List ArrayDecl) (uses : List Use) → filter is_array uses ≡ own_uses formats arrays → weight ≤ MOST_WEIGHT → stop_of_uses files weight uses ≡ None →
     weight + sum_by (λ m. length m.entries) (matrices_from (entries_in files) arrays) ≤ MOST_WEIGHT
-arrays_keep files weight formats arrays light fine = at (weight_after files uses weight (mentioned uses)) refl fine
+arrays_keep files weight formats arrays uses own light fine = at (weight_after files uses weight (mentioned uses)) refl fine
   where
-    uses : List Use
-    uses = uses_of formats arrays
-
     at : (last : Result ℕ Stop) → weight_after files uses weight (mentioned uses) ≡ last → stop_of last ≡ None → weight + sum_by (λ m. length m.entries) (matrices_from (entries_in files) arrays) ≤ MOST_WEIGHT
     at (Ok now) is fine =
         let all = total files uses (mentioned uses) weight now is in
@@ -190,5 +192,6 @@ arrays_keep files weight formats arrays light fine = at (weight_after files uses
         let most = all.light light in
         let sum = all.sum in
         let few = of_arrays files formats arrays in
-        omega (arith, sums, most, sum, few)
+        let some = subst (λ us. by_use (entries files) (is_new []) us ≤ by_use (entries files) (is_new []) uses) own (of_some files is_array uses) in
+        omega (arith, sums, most, sum, few, some)
     at (Err stop) is fine = absurd cc

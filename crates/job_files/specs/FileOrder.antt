@@ -13,6 +13,7 @@ use Rattle.bern_base.specs.declared.refusal.Refusal.TheVariants.{File}
 use Rattle.bern_ports.specs.Files.{Files, bytes_of}
 use Rattle.format_model.specs.Checks.{first_of, sizes_rule}
 use Rattle.formats.specs.FileRules.{diagonals_rule, order_rule}
+use Rattle.placement.specs.Listed.{listed_rule}
 use Rattle.mm_profile.specs.Profile.{Fault, mm, and_then}
 use Rattle.job_files.specs.Uses.{entries_in, file_of, is_of, matrices_from, mentioned, uses_of}
 use Rattle.job_files.specs.Weight.{weight_of}
@@ -32,9 +33,10 @@ astray_rule None m = None
 astray_rule (Some offsets) m = diagonals_rule offsets m
 
 -- the first rule that a file's matrix breaks in a use: for an order of rows F1 and F3, it is one column that lists each row once;
--- for an array F1, its rows and columns are the array's, and F2
+-- for an array F1, its rows and columns are the array's, and F2; for a place F6, F4 and F5, it lists one rank for each index
 abbrev pub broken_rule : Matrix → Use → Option Rule
 broken_rule m (by.Order file rows) = order_rule rows m
+broken_rule m (by.Place file extent ranks) = listed_rule extent ranks m
 broken_rule m (by.Array file rows cols diagonals) = first_of (sizes_rule rows cols m) (astray_rule diagonals m)
 
 -- a use of another file asks nothing
@@ -99,7 +101,7 @@ stop_of_uses files weight uses = stops files uses weight (mentioned uses)
 abbrev pub stop_of_files : Files → List ℕ → ℕ → Checked → Option Stop
 stop_of_files files name ranks job =
     if nat_lt MOST_WEIGHT (weight_of job ranks) then Some (Refused (File name 0 F7))
-    else stop_of_uses files (weight_of job ranks) (uses_of job.formats job.arrays)
+    else stop_of_uses files (weight_of job ranks) (uses_of ranks job)
 
 -- a file of this name is reached: it is that of a use, and no file that is mentioned before stops the loading
 pub record ReachesUse (files : Files) (weight : ℕ) (uses : List Use) (name : List ℕ) : Type 0 where
@@ -111,11 +113,13 @@ pub record ReachesUse (files : Files) (weight : ℕ) (uses : List Use) (name : L
 -- a file of this name is reached by the order of a job's files
 pub record Reaches (files : Files) (ranks : ℕ) (job : Checked) (name : List ℕ) : Type 0 where
   pub light : weight_of job ranks ≤ MOST_WEIGHT
-  pub reached : ReachesUse files (weight_of job ranks) (uses_of job.formats job.arrays) name
+  pub reached : ReachesUse files (weight_of job ranks) (uses_of ranks job) name
 
--- what a use asks of a matrix, beside that it is one: that it lists each row once, or that it has an array's sizes
+-- what a use asks of a matrix, beside that it is one: that it lists each row once, that it has an array's sizes, or that it lists
+-- one rank for each index
 abbrev pub Suits : Use → Matrix → Type 0
 Suits (by.Order file rows) m = order_rule rows m ≡ None
+Suits (by.Place file extent ranks) m = listed_rule extent ranks m ≡ None
 Suits (by.Array file rows cols diagonals) m = (m.rows ≡ rows) × (m.cols ≡ cols)
 
 pub record IsForUse (u : Use) (m : Matrix) : Type 0 where

@@ -22,7 +22,7 @@ StopsAtMissing =
 abbrev pub ReachesAll : Type 0
 ReachesAll =
     (files : Files) (name : List ℕ) (ranks : ℕ) (job : Checked) (file : List ℕ) → stop_of_files files name ranks job ≡ None →
-    Contains (mentioned (uses_of job.formats job.arrays)) file → Reaches files ranks job file
+    Contains (mentioned (uses_of ranks job)) file → Reaches files ranks job file
 
 -- the entries of the matrices that are loaded keep the limit, with what the arrays weigh without files
 abbrev pub KeepsLimit : Type 0

@@ -1,10 +1,15 @@
 -- The uses of a job's files, the files by first mention, and what the arrays of a job begin with: zeros, or the matrix of a file.
-use Rattle.std.specs.Prelude.{◌≡◌, ℕ, Bool, not, List, [], ◌∷◌, ◌++◌, ℤ, Option, Some, None, Result, Ok, Err, map, slice_get}
+use Rattle.std.specs.Prelude.{◌≡◌, ℕ, ◌+◌, ◌==◌, Bool, true, false, not, if◌then◌else◌, List, [], ◌∷◌, ◌++◌, ℤ, Option, Some, None, is_some, Result, Ok, Err, map, slice_get}
 use Rattle.std.specs.List.{filter, flat_map}
 use Rattle.std.specs.Str.{bytes_eq}
 use Rattle.bern_base.specs.Matrix.{IsMatrix}
 use Rattle.bern_base.specs.declared.job.ArrayDecl.{ArrayDecl}
+use Rattle.bern_base.specs.declared.job.Checked.{Checked}
+use Rattle.bern_base.specs.declared.job.ExtentDecl.{ExtentDecl}
 use Rattle.bern_base.specs.declared.job.FormatDecl.{FormatDecl}
+use Rattle.bern_base.specs.declared.job.PlaceDecl.{PlaceDecl}
+use Rattle.bern_base.specs.declared.job.PlaceKind.{PlaceKind}
+use Rattle.bern_base.specs.declared.job.PlaceKind.TheVariants as kind
 use Rattle.bern_base.specs.declared.matrix.Entry.{Entry}
 use Rattle.bern_base.specs.declared.matrix.Matrix.{Matrix}
 use Rattle.bern_base.specs.declared.shape.Shape.{Shape}
@@ -17,6 +22,7 @@ use Rattle.job_files.specs.declared.uses.Use.TheVariants as by
 abbrev pub file_of : Use → List ℕ
 file_of (by.Order file rows) = file
 file_of (by.Array file rows cols diagonals) = file
+file_of (by.Place file extent ranks) = file
 
 abbrev pub is_of : List ℕ → Use → Bool
 is_of name u = bytes_eq (file_of u) name
@@ -65,9 +71,43 @@ file_use array diagonals (Some file) = by.Array file array.rows array.cols diago
 abbrev pub uses_by : List FormatDecl → ArrayDecl → List Use
 uses_by formats array = order_use array (order_of formats array) ++ file_use array (diagonals_of formats array) array.file
 
--- the uses of files by the arrays of a job, in their order
-abbrev pub uses_of : List FormatDecl → List ArrayDecl → List Use
-uses_of formats arrays = flat_map (uses_by formats) arrays
+-- how many indices an extent has
+abbrev pub size_of : Option ExtentDecl → ℕ
+size_of None = 0
+size_of (Some extent) = extent.size
+
+-- the use of a file that lists at which of so many ranks each index of an extent is
+abbrev pub kind_use : ℕ → ℕ → PlaceKind → List Use
+kind_use size ranks (kind.Listed file) = by.Place file size ranks ∷ []
+kind_use size ranks other = []
+
+abbrev pub place_use : ℕ → List ExtentDecl → PlaceDecl → List Use
+place_use ranks extents place = kind_use (size_of (slice_get extents place.extent)) ranks place.kind
+
+-- the uses of files by the places that are declared after so many arrays, and before the next one
+abbrev pub places_after : ℕ → Checked → ℕ → List Use
+places_after ranks job number = flat_map (place_use ranks job.extents) (filter (λ place. place.arrays_before == number) job.places)
+
+-- the uses of files by these arrays, the first of them with this number, and by the places among and after them
+abbrev pub uses_from : ℕ → Checked → ℕ → List ArrayDecl → List Use
+uses_from ranks job number [] = places_after ranks job number
+uses_from ranks job number (array ∷ arrays) = places_after ranks job number ++ (uses_by job.formats array ++ uses_from ranks job (number + 1) arrays)
+
+-- the uses of files by the places and the arrays of a job on so many ranks, in the order of their lines
+abbrev pub uses_of : ℕ → Checked → List Use
+uses_of ranks job = uses_from ranks job 0 job.arrays
+
+-- an array is read from the file in this use
+abbrev pub is_array : Use → Bool
+is_array (by.Order file rows) = false
+is_array (by.Array file rows cols diagonals) = true
+is_array (by.Place file extent ranks) = false
+
+-- of the matrices that stand beside uses, those that arrays are read from
+abbrev pub array_matrices : List Use → List Matrix → List Matrix
+array_matrices [] ms = []
+array_matrices (u ∷ uses) [] = []
+array_matrices (u ∷ uses) (m ∷ ms) = if is_array u then m ∷ array_matrices uses ms else array_matrices uses ms
 
 -- the entries of a file's matrix; where it has none there are no entries
 abbrev pub entries_of : Result Matrix Fault → List Entry
@@ -115,12 +155,11 @@ left_by None ms = ms
 left_by (Some file) [] = []
 left_by (Some file) (m ∷ ms) = ms
 
--- those that are left after the order of an array's rows
-abbrev pub after_order : List FormatDecl → ArrayDecl → List Matrix → List Matrix
-after_order formats array ms = left_by (order_of formats array) ms
+-- an array is read from a file
+abbrev pub has_file : ArrayDecl → Bool
+has_file array = is_some array.file
 
--- a matrix for each array, from those of all uses; the orders of rows are left out
-abbrev pub spread : List FormatDecl → List ArrayDecl → List Matrix → List Matrix
-spread formats [] ms = []
-spread formats (array ∷ arrays) ms =
-    taken array array.file (after_order formats array ms) ∷ spread formats arrays (left_by array.file (after_order formats array ms))
+-- a matrix for each array, from those that arrays are read from
+abbrev pub spread : List ArrayDecl → List Matrix → List Matrix
+spread [] ms = []
+spread (array ∷ arrays) ms = taken array array.file ms ∷ spread arrays (left_by array.file ms)

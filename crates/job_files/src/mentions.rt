@@ -1,25 +1,74 @@
-ghost use Rattle.std.specs.Prelude.{◌≡◌, ◌++◌, IfOk, OnOk};
+ghost use Rattle.std.specs.Prelude.{◌≡◌, ◌++◌, slice_get, IfOk, OnOk};
 ghost use Rattle.std.specs.Option.{option_copied};
-ghost use Rattle.job_files.specs.Uses.{diagonals_of, file_use, order_of, order_use, uses_of};
+ghost use Rattle.job_files.specs.Uses.{diagonals_of, file_use, order_of, order_use, place_use, places_after, size_of, uses_of};
 
 use crate::uses::Use;
-use bern_base::{ArrayDecl, FormatDecl, Items, NoMemory, Shape, Text};
+use bern_base::{
+    ArrayDecl, Checked, ExtentDecl, FormatDecl, Items, NoMemory, PlaceDecl, PlaceKind, Shape, Text,
+};
 use std::alloc::Global;
 
-/// The uses of files by arrays, in their order. An array mentions the file that its format names right before its own.
-pub fn uses_of(
-    alloc: Global,
-    formats: &Items<FormatDecl>,
-    arrays: &[ArrayDecl],
-) -> Result<Items<Use>, NoMemory>
-    ensures { IfOk result (λ uses. uses ≡ uses_of formats.now arrays.now) }
+/// The uses of files by the places and the arrays of a job, in the order of their lines. An array mentions the file that its
+/// format names right before its own.
+pub fn uses_of(alloc: Global, job: &Checked, ranks: u32) -> Result<Items<Use>, NoMemory>
+    ensures { IfOk result (λ uses. uses ≡ uses_of ranks job.now) }
 {
     let mut uses = Items::new(alloc);
-    for array in arrays {
-        push_order(alloc, &mut uses, formats, array)?;
-        push_file(alloc, &mut uses, formats, array)?;
+    for (number, array) in job.arrays.as_slice().iter().enumerate() {
+        push_places(alloc, &mut uses, job, ranks, number)?;
+        push_order(alloc, &mut uses, &job.formats, array)?;
+        push_file(alloc, &mut uses, &job.formats, array)?;
     }
+    push_places(alloc, &mut uses, job, ranks, job.arrays.len())?;
     Ok(uses)
+}
+
+/// Appends the uses of files by the places that are declared after so many arrays, and before the next one.
+fn push_places(
+    alloc: Global,
+    uses: &mut Items<Use>,
+    job: &Checked,
+    ranks: u32,
+    number: usize,
+) -> Result<(), NoMemory>
+    ensures { OnOk result (uses.new ≡ uses.old ++ places_after ranks job.now number) }
+{
+    for place in job.places.as_slice() {
+        if place.arrays_before == number {
+            push_place(alloc, uses, &job.extents, place, ranks)?;
+        }
+    }
+    Ok(())
+}
+
+/// Appends the use of the file that lists a place, where one does.
+fn push_place(
+    alloc: Global,
+    uses: &mut Items<Use>,
+    extents: &Items<ExtentDecl>,
+    place: &PlaceDecl,
+    ranks: u32,
+) -> Result<(), NoMemory>
+    ensures { OnOk result (uses.new ≡ uses.old ++ place_use ranks extents.now place.now) }
+{
+    match &place.kind {
+        PlaceKind::Listed(file) => uses.push(Use::Place {
+            file: Text::from_bytes(alloc, file.as_bytes())?,
+            extent: size_of(extents, place.extent),
+            ranks,
+        }),
+        _ => Ok(()),
+    }
+}
+
+/// How many indices an extent has.
+fn size_of(extents: &Items<ExtentDecl>, number: u32) -> u32
+    ensures { result ≡ size_of (slice_get extents.now number) }
+{
+    match extents.get(number as usize) {
+        Some(extent) => extent.size,
+        None => 0,
+    }
 }
 
 /// Appends the use of the file that has the order of an array's rows, where its format names one.
@@ -61,7 +110,7 @@ fn push_file(
 }
 
 /// The file that has the order of an array's rows, which its permute format names.
-pub fn order_of<'a>(formats: &'a Items<FormatDecl>, array: &ArrayDecl) -> Option<&'a Text>
+fn order_of<'a>(formats: &'a Items<FormatDecl>, array: &ArrayDecl) -> Option<&'a Text>
     ensures { option_copied result ≡ order_of formats.now array.now }
 {
     match formats.get(array.format as usize) {

@@ -4,10 +4,11 @@ ghost use Rattle.bern_base.specs.Matrix.{IsMatrix};
 ghost use Rattle.format_model.specs.Checks.{first_of, sizes_rule};
 ghost use Rattle.formats.specs.FileRules.{order_rule};
 ghost use Rattle.job_files.specs.FileOrder.{astray_rule, broken_in, broken_rule, first_broken};
-ghost use Rattle.job_files.specs.Uses.{file_of, is_of};
+ghost use Rattle.job_files.specs.Uses.{file_of, is_array, is_of};
 
 use bern_base::{Items, Matrix, NoMemory, Rule, Text};
 use formats::{OrderError, check_astray, check_order, check_sizes};
+use placement::check_listed;
 use std::alloc::Global;
 
 /// A use of a file: what is read from it.
@@ -25,6 +26,12 @@ pub enum Use {
         cols: u32,
         diagonals: Option<Items<i64>>,
     },
+    /// The places of so many indices at so many ranks.
+    Place {
+        file: Text,
+        extent: u32,
+        ranks: u32,
+    },
 }
 
 impl Use {
@@ -35,10 +42,19 @@ impl Use {
         match self {
             Use::Order { file, .. } => file,
             Use::Array { file, .. } => file,
+            Use::Place { file, .. } => file,
         }
     }
 
-    /// The first rule that the file's matrix breaks in this use: F1 and F3 for an order of rows, F1 and F2 for an array.
+    /// Whether an array is read from the file.
+    pub fn is_array(&self) -> bool
+        ensures { result ≡ is_array self.now }
+    {
+        matches!(self, Use::Array { .. })
+    }
+
+    /// The first rule that the file's matrix breaks in this use: F1 and F3 for an order of rows, F1 and F2 for an array,
+    /// F6, F4 and F5 for a place.
     fn broken_rule(&self, alloc: Global, matrix: &Matrix) -> Result<Option<Rule>, NoMemory>
         requires { IsMatrix matrix.now }
         ensures { IfOk result (λ rule. rule ≡ broken_rule matrix.now self.now) }
@@ -51,6 +67,7 @@ impl Use {
                 diagonals,
                 ..
             } => Ok(broken_by_array(*rows, *cols, diagonals, matrix)),
+            Use::Place { extent, ranks, .. } => Ok(check_listed(*extent, *ranks, matrix).err()),
         }
     }
 

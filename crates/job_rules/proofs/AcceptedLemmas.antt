@@ -250,7 +250,7 @@ module _ (job : Checked) (s : State) (sound : Sound job s) (grows : Grows s.job 
       let both = or_parts (kind_past_limit kind) (nat_le MOST_PLACES (length s.job.places)) (rule_not whole none 12 (omega arith)) in
       let few = below_limit (length s.job.places) MOST_PLACES both.1 in
       let e = extent_at s.job (lookup extent s.names) (there extent) (rule_not whole none 2 (omega arith)) in
-      let d : PlaceDecl = record { name = name; extent = number_of (lookup extent s.names); kind = kind_of kind } in
+      let d : PlaceDecl = record { name = name; extent = number_of (lookup extent s.names); kind = kind_of kind; arrays_before = length s.job.arrays } in
       record {
         names = names_grow whole line name (named.Place (length s.job.places)) (d, get-last s.job.places d, tt);
         plain = below_push 0 s.names name (named.Place (length s.job.places)) sound.plain tt;

@@ -149,7 +149,12 @@ with_array state decl = record {
 abbrev pub after : State → ℕ → Form → State
 after state line (form.Extent name size) = with_extent state (record { name = name; size = size })
 after state line (form.Place name extent how) =
-    with_place state (record { name = name; extent = number_of (lookup extent state.names); kind = kind_of how })
+    with_place state (record {
+      name = name;
+      extent = number_of (lookup extent state.names);
+      kind = kind_of how;
+      arrays_before = length state.job.arrays;
+    })
 after state line (form.Format name how) = with_format state (record { name = name; shape = shape_of how })
 after state line (form.Array name extents format axis place file) = with_array state (record {
   name = name;

@@ -100,6 +100,7 @@ impl<'a> Draft<'a> {
             name: copy,
             extent: number_of(named),
             kind,
+            arrays_before: self.job.arrays.len(),
         })?;
         self.names.add(name.as_bytes(), Named::Place(number))?;
         Ok(())

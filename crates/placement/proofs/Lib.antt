@@ -1,5 +1,9 @@
+pub mod DealtLemmas
 pub mod ElementLemmas
 pub mod Examples
 pub mod IndexLemmas
+pub mod ListedLemmas
 pub mod PartLemmas
+pub mod PlaceLemmas
+pub mod RanksLemmas
 pub mod ShareLemmas

@@ -17,7 +17,7 @@ use Rattle.bern_base.specs.Matrix.{number, IsInside, IsMatrix}
 use Rattle.placement.specs.Placement.{Triple, IsPlacement, local_of, owned_indices, owned_of, global_of}
 use Rattle.placement.specs.PlacementLaws.{owner-below, global-owner-local, local-below}
 use Rattle.placement.specs.Part.{index_on, extent_on, part_rows, part_cols, owner_of_entry, is_owned, localized, part_of, globalized, Held, held_by, shared_out, held, PartsShareAMatrix}
-use Rattle.placement.proofs.IndexLemmas.{local-rises, get_or-owned_indices}
+use Rattle.placement.proofs.IndexLemmas.{local-rises, get_or-owned_indices, owned_indices-rise}
 use Rattle.placement.proofs.ShareLemmas.{by_key, by_key-permutation, map-flat_map, flat_map_agree, map_agree}
 
 -- an entry inside the matrix that the rank owns
@@ -47,7 +47,7 @@ module _ (ranks : ℕ) (ts : List Triple) (is : IsPlacement ranks ts) (p : ℕ) 
   inside_part Both extent e kept = (local_owned Both e extent kept, kept.inside.1)
 
 -- the order of two places by row and then column
-before : (a b c d w : ℕ) → b < w → d < w → a * w + b < c * w + d → (a < c) ⊎ ((a ≡ c) × (b < d))
+pub before : (a b c d w : ℕ) → b < w → d < w → a * w + b < c * w + d → (a < c) ⊎ ((a ≡ c) × (b < d))
 before a b c d w low high up = ⊎_elim
     (λ same. inr (same, (let rows : a * w ≡ c * w = ap (λ r. r * w) same in omega (arith, rows, up))))
     (λ apart. ⊎_elim (λ less. inl less) (λ more. absurd (let step = row_fits c w a w more (omega arith) in omega (arith, step, up, high))) apart)
@@ -106,7 +106,7 @@ mapped_rise cols f es rise k inside =
     subst (λ xs. get_or xs k 0 < get_or xs (k + 1) 0) (sym same)
     (rw (get_or-map (λ e. number cols (f e)) es k no_entry 0 (omega (arith, within)), get_or-map (λ e. number cols (f e)) es (k + 1) no_entry 0 within) (rise k within))
 
-part-IsMatrix : (ranks : ℕ) (ts : List Triple) (axis : Axis) (p : ℕ) (m : Matrix) → IsPlacement ranks ts → IsMatrix m → extent_on axis m.rows m.cols ≡ length ts → IsMatrix (part_of axis ts p m).matrix
+pub part-IsMatrix : (ranks : ℕ) (ts : List Triple) (axis : Axis) (p : ℕ) (m : Matrix) → IsPlacement ranks ts → IsMatrix m → extent_on axis m.rows m.cols ≡ length ts → IsMatrix (part_of axis ts p m).matrix
 part-IsMatrix ranks ts axis p m placed_well is extent =
     let own : List Entry = filter (is_owned axis ts p) m.entries in
     let cols : ℕ = part_cols axis m (owned_of ts p) in
@@ -176,3 +176,13 @@ parts-share-a-matrix ranks ts axis m is good extent = record {
   once = held_once ranks ts axis m is good extent;
   back = lead_back ranks ts axis m is good extent;
 }
+
+-- all of them at once
+pub parts-are-matrices : (ranks : ℕ) (ts : List Triple) (axis : Axis) (m : Matrix) (n : ℕ) → IsPlacement ranks ts → IsMatrix m → extent_on axis m.rows m.cols ≡ length ts →
+    All (λ part. IsMatrix part.matrix) (map (λ p. part_of axis ts p m) (range_with_len 0 n))
+parts-are-matrices ranks ts axis m n is good extent =
+    All-map (λ part. IsMatrix part.matrix) (λ p. part_of axis ts p m) (range_with_len 0 n) (λ k d within. part-IsMatrix ranks ts axis (get_or (range_with_len 0 n) k d) m is good extent)
+
+pub parts-rise : (ranks : ℕ) (ts : List Triple) (axis : Axis) (m : Matrix) (n : ℕ) → IsPlacement ranks ts → All (λ part. IsStrictlyIncreasing part.globals) (map (λ p. part_of axis ts p m) (range_with_len 0 n))
+parts-rise ranks ts axis m n is =
+    All-map (λ part. IsStrictlyIncreasing part.globals) (λ p. part_of axis ts p m) (range_with_len 0 n) (λ k d within. owned_indices-rise is (get_or (range_with_len 0 n) k d))

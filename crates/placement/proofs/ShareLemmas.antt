@@ -73,7 +73,7 @@ split_top {X} key n xs =
     subst (λ ys. IsPermutation (filter r xs) ys) (ap (λ ys. ys ++ filter q (filter r xs)) lower ∙ ap (λ ys. filter p xs ++ ys) upper)
     (IsPermutation-filter_both p q (λ x. refl) (filter r xs))
 
-by_key_more : {X : Type 0} (key : X → ℕ) (n : ℕ) (xs : List X) → by_key key n xs ++ filter (λ x. key x == n) xs ≡ by_key key (n + 1) xs
+pub by_key_more : {X : Type 0} (key : X → ℕ) (n : ℕ) (xs : List X) → by_key key n xs ++ filter (λ x. key x == n) xs ≡ by_key key (n + 1) xs
 by_key_more {X} key n xs =
     let f : ℕ → List X = λ p. filter (λ x. key x == p) xs in
     ap (λ ys. flat_map f (range_with_len 0 n) ++ ys) (sym (append-nil (f n))) ∙ sym (flat_map-append f (range_with_len 0 n) (n ∷ [])) ∙ ap (flat_map f) (sym (range_more n))

@@ -61,6 +61,10 @@ part_of axis ts p m = record {
   globals = owned_indices ts p;
 }
 
+-- for each of so many keys what has it, in the order of the list
+abbrev pub dealt : {X Y : Type 0} → (X → ℕ) → (X → Y) → ℕ → List X → List (List Y)
+dealt key f n xs = map (λ k. map f (filter (λ x. key x == k) xs)) (range_with_len 0 n)
+
 -- an entry of a part with the index for which its local index stands
 abbrev pub globalized : Axis → List ℕ → Entry → Entry
 globalized axis globals e = with_index axis e (slice_index globals (index_on axis e))

@@ -1,6 +1,6 @@
 ghost use Rattle.std.specs.Prelude.{◌≡◌, ◌<◌, ◌*◌, ◌^◌, length};
 
-use crate::place::Placement;
+use crate::place::{Placement, Seat};
 
 /// Blocks of `block` indices, dealt to the ranks in turn. The last block may be short.
 #[derive(Clone, Copy, Debug, PartialEq, Eq)]
@@ -84,6 +84,14 @@ impl Placement for Cyclic {
 
     fn local(&self, i: u32) -> u32 {
         (i as u64 / self.turn() * self.block as u64 + (i % self.block) as u64) as u32
+    }
+
+    fn seat(&self, i: u32) -> Seat {
+        let blocks = i / self.block;
+        Seat {
+            owner: blocks % self.ranks,
+            local: blocks / self.ranks * self.block + (i - blocks * self.block),
+        }
     }
 
     fn owned(&self, p: u32) -> u32 {

@@ -1,6 +1,13 @@
 ghost use Rattle.std.specs.Prelude.{◌≡◌, ◌<◌, ℕ, List, length};
 ghost use Rattle.placement.specs.Placement.{Triple, IsPlacement, owner_of, local_of, owned_of, global_of};
 
+/// The owner of an index, and its number there.
+#[derive(Clone, Copy, Debug, PartialEq, Eq)]
+pub struct Seat {
+    pub owner: u32,
+    pub local: u32,
+}
+
 /// Which rank owns each index of an axis, and by which number. No call takes memory.
 ///
 /// Its meaning is the number of ranks and a list with one triple (index, rank, local) for each index.
@@ -21,6 +28,18 @@ pub trait Placement {
     fn local(&self, i: u32) -> u32
         requires { i < length (triples self.now) }
         ensures { result ≡ local_of (triples self.now) i };
+
+    /// The owner of an index and its number there, for callers that want both.
+    fn seat(&self, i: u32) -> Seat
+        requires { i < length (triples self.now) }
+        ensures owner { result.owner ≡ owner_of (triples self.now) i }
+        ensures local { result.local ≡ local_of (triples self.now) i }
+    {
+        Seat {
+            owner: self.owner(i),
+            local: self.local(i),
+        }
+    }
 
     /// How many indices a rank owns.
     fn owned(&self, p: u32) -> u32

@@ -149,6 +149,7 @@ fn places(alloc: Global, kind: PlaceKind) -> Result<Items<PlaceDecl>, NoMemory> 
         name: Text::from_bytes(alloc, b"p")?,
         extent: 0,
         kind,
+        arrays_before: 0,
     };
     Ok(Items::from_vec(vec![in alloc; place]?))
 }

@@ -141,6 +141,7 @@ fn places(alloc: Global) -> Result<Items<PlaceDecl>, NoMemory>
         name: Text::new(alloc),
         extent: 0,
         kind: PlaceKind::Block,
+        arrays_before: 0,
     };
     one(alloc, place)
 }

@@ -2,7 +2,7 @@ ghost use Rattle.std.specs.Prelude.{IfOk};
 ghost use Rattle.job_model.specs.Accepted.{IsAccepted};
 
 use bern_base::{Checked, Entry, Items, Matrix, NoMemory, Text, Val};
-use job_accept::take_built_job;
+use job_accept::take_job;
 use job_runs::{replay_text, run_text};
 use rank_product::{are_of_job, product_shape};
 use std::alloc::Global;
@@ -48,7 +48,7 @@ fn job_of(alloc: Global, lines: &[u8]) -> Result<Checked, Fail>
 {
     let mut bytes = Text::from_bytes(alloc, HEAD)?;
     bytes.append(lines)?;
-    Ok(take_built_job(alloc, bytes.as_bytes())?)
+    Ok(take_job(alloc, bytes.as_bytes())?)
 }
 
 #[test]

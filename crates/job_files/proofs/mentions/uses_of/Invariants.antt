@@ -1,7 +1,7 @@
--- The uses so far are those of the arrays so far.
-use Rattle.std.proofs.Common.{◌≡◌, take}
-use Rattle.job_files.specs.Uses.{uses_of}
+-- The uses so far, and then those of the arrays to come and of the places among and after them, are all.
+use Rattle.std.proofs.Common.{◌≡◌, ◌++◌, drop}
+use Rattle.job_files.specs.Uses.{uses_from, uses_of}
 use Rattle.job_files.proofs.mentions.uses_of.Given as goal
 
-abbrev pub invariant-loop-array : goal.invariant-loop-array
-invariant-loop-array l = l.uses ≡ uses_of l.formats (take l.array-index l.arrays)
+abbrev pub invariant-loop-number : goal.invariant-loop-number
+invariant-loop-number l = l.uses ++ uses_from l.ranks l.job l.number (drop l.number l.job.arrays) ≡ uses_of l.ranks l.job

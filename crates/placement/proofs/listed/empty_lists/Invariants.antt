@@ -1,0 +1,7 @@
+-- So far there is an empty list for each rank.
+use Rattle.std.proofs.Common.{◌≡◌, map, []}
+use Rattle.std.specs.List.{range_with_len}
+use Rattle.placement.proofs.listed.empty_lists.Given as goal
+
+abbrev pub invariant-loop-rank : goal.invariant-loop-rank
+invariant-loop-rank l = l.lists ≡ map (λ _. []) (range_with_len 0 l.rank)
