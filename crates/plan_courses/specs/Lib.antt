@@ -1,0 +1,4 @@
+pub mod CourseLaws
+pub mod PlanCourses
+pub mod Schedules
+pub mod Subscripts
