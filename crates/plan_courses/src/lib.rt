@@ -6,4 +6,4 @@
 
 mod laws;
 
-pub use laws::each_plan_gives_a_course;
+pub use laws::{each_plan_gives_a_course, each_plan_walks_the_answer};
