@@ -1,0 +1,11 @@
+pub mod AnswerLemmas
+pub mod BoxLemmas
+pub mod DepthLemmas
+pub mod FlatLemmas
+pub mod KnownLemmas
+pub mod LawLemmas
+pub mod LocatedLemmas
+pub mod ReferenceLemmas
+pub mod StepLemmas
+pub mod SubscriptLemmas
+pub mod TestLemmas
