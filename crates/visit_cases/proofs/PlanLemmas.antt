@@ -1,17 +1,18 @@
 -- The plans of the tests are ways, over any trees with their levels.
-use Rattle.std.proofs.Common.{◌≡◌, ℕ, zero, suc, ◌<◌, ◌≤◌, ◌==◌, true, false, cond, List, [], ◌∷◌, length, Some, None, refl, sym, ap, ◌∙◌, arith}
-use Rattle.std.specs.Prelude.{ℤ, pos, ◌+ℤ◌, ◌-ℤ◌, ◌*ℤ◌, int_div, int_rem, unsigned_abs, slice_set}
+use Rattle.std.proofs.Common.{◌≡◌, ℕ, zero, suc, ◌+◌, ◌*◌, ◌/◌, ◌%◌, div-add-mod', mod-lt, ◌<◌, ◌≤◌, ◌==◌, true, false, cond, List, [], ◌∷◌, length, Some, None, refl, sym, ap, ◌∙◌, arith}
+use Rattle.std.specs.Prelude.{ℤ, pos, negsuc, ◌≤ℤ◌, ◌<ℤ◌, ◌+ℤ◌, ◌-ℤ◌, ◌*ℤ◌, int_div, int_rem, unsigned_abs, slice_set}
 use Rattle.std.specs.Ordering.{int_eq}
 use Rattle.std.proofs.lemmas.Bool.{cond-true, ne_eqb}
 use Rattle.std.proofs.lemmas.Bool.Decides.{Decides-int_eq}
 use Rattle.std.proofs.lemmas.Int.{ints, quot-rem, rem_below}
 use Rattle.bern_base.specs.Affine.{IsWithin, number_of}
 use Rattle.format_model.specs.Trees.{IsTree, Tree, depth_of, ordered_at}
-use Rattle.walks.specs.Conditions.{IsSettled, IsSolver, IsStep, IsUnused, after_step, is_among, known_at, stride_at}
+use Rattle.walks.specs.Conditions.{IsInLoops, IsSettled, IsSolver, IsStep, IsUnused, after_step, is_among, known_at, same, stride_at}
 use Rattle.walks.specs.Courses.{Course, node_of}
 use Rattle.walks.proofs.Points.{among_every, number-same, or_second, same-at}
+use Rattle.walks.proofs.Spans.{between-in_loop}
 use Rattle.visits.specs.Ways.{AreNear, HasSlope, IsWay, quotient, seen, stride_in, zero_hit}
-use Rattle.visit_cases.specs.Plans.{pair_way, rows_way}
+use Rattle.visit_cases.specs.Plans.{grid_way, pair_way, rows_way}
 
 -- ---- a factor of 1
 
@@ -24,18 +25,18 @@ over_one n =
 quotient_one : (n : ℤ) → quotient (pos 1) n ≡ Some n
 quotient_one n =
     ap (λ m. cond (int_eq (pos 1 *ℤ m) n) (Some m) None) (over_one n)
-    ∙ cond-true (int_eq (pos 1 *ℤ n) n) (Some n) None ((Decides-int_eq (pos 1 *ℤ n) n).1 (let same : (pos 1 *ℤ n) ≡ n = omega (arith, ints) in same))
+    ∙ cond-true (int_eq (pos 1 *ℤ n) n) (Some n) None ((Decides-int_eq (pos 1 *ℤ n) n).1 (let itself : (pos 1 *ℤ n) ≡ n = omega (arith, ints) in itself))
 
 solved : (p : List ℤ) (v index : ℕ) (x z : ℤ) → v < length p → quotient (pos 1) (pos index -ℤ z) ≡ Some x → (number_of (slice_set p v x) v +ℤ z) ≡ pos index
 solved p v index x z inside is =
     let some : Some (pos index -ℤ z) ≡ Some x = sym (quotient_one (pos index -ℤ z)) ∙ is in
     let value : (pos index -ℤ z) ≡ x = cc in
-    let same = number-same p v x inside in omega (arith, ints, value, same)
+    let read = number-same p v x inside in omega (arith, ints, value, read)
 
 solves : (p : List ℤ) (v index : ℕ) (x z : ℤ) → v < length p → (number_of (slice_set p v x) v +ℤ z) ≡ pos index → quotient (pos 1) (pos index -ℤ z) ≡ Some x
 solves p v index x z inside is =
-    let same = number-same p v x inside in
-    quotient_one (pos index -ℤ z) ∙ ap (λ y. Some y) (let value : (pos index -ℤ z) ≡ x = omega (arith, ints, same, is) in value)
+    let read = number-same p v x inside in
+    quotient_one (pos index -ℤ z) ∙ ap (λ y. Some y) (let value : (pos index -ℤ z) ≡ x = omega (arith, ints, read, is) in value)
 
 -- ---- unused variables
 
@@ -211,5 +212,77 @@ pair_is_way t u is_t is_u one_t one_u up_t up_u = record {
   };
   near = pair_near;
   slopes = pair_slopes;
+  some = omega arith;
+}
+
+-- ---- one packed level that gives two variables
+
+abbrev pub grid_course : Tree → Course
+grid_course t = seen grid_way (t ∷ [])
+
+-- the parts of an index whose second part is below 3
+parts_are : (a b e : ℕ) → b < 3 → a + a + a + b ≡ e → (e / 3 ≡ a) × (e % 3 ≡ b)
+parts_are a b e low is =
+    let whole : e / 3 * 3 + e % 3 ≡ e = div-add-mod' e 3 in
+    let below : e % 3 < 3 = mod-lt e (omega arith) in
+    (omega (arith, whole, below, low, is), omega (arith, whole, below, low, is))
+
+grid_parts : (x y : ℤ) (e : ℕ) → pos 0 ≤ℤ x → pos 0 ≤ℤ y → y <ℤ pos 3 → (x +ℤ x +ℤ x +ℤ y) ≡ pos e → (pos (e / 3) ≡ x) × (pos (e % 3) ≡ y)
+grid_parts (pos a) (pos b) e x_low y_low y_high is = let parts = parts_are a b e (omega (arith, ints, y_high)) (omega (arith, ints, is)) in (ap (λ n. pos n) parts.0, ap (λ n. pos n) parts.1)
+grid_parts (negsuc a) y e x_low y_low y_high is = absurd (omega (arith, ints, x_low))
+grid_parts (pos a) (negsuc b) e x_low y_low y_high is = absurd (omega (arith, ints, y_low))
+
+grid_depends : (t : Tree) (x y : List ℤ) → same (1 ∷ 0 ∷ 2 ∷ 3 ∷ []) x y ≡ true → (grid_course t).index 0 0 x ≡ (grid_course t).index 0 0 y
+grid_depends t x y agree =
+    let first : number_of x 0 ≡ number_of y 0 = same-at (1 ∷ 0 ∷ 2 ∷ 3 ∷ []) x y agree 0 refl in
+    let second : number_of x 1 ≡ number_of y 1 = same-at (1 ∷ 0 ∷ 2 ∷ 3 ∷ []) x y agree 1 refl in
+    ap (λ z. z +ℤ z +ℤ z +ℤ number_of x 1) first ∙ ap (λ z. number_of y 0 +ℤ number_of y 0 +ℤ number_of y 0 +ℤ z) second
+
+-- both parts of an index of the box
+box_parts : (t : Tree) (x : List ℤ) (e : ℕ) → IsInLoops (grid_course t) x → (grid_course t).index 0 0 x ≡ pos e → (pos (e / 3) ≡ number_of x 0) × (pos (e % 3) ≡ number_of x 1)
+box_parts t x e box is =
+    let first = between-in_loop (grid_course t) 0 (number_of x 0) (box 0 (omega arith)) in
+    let second = between-in_loop (grid_course t) 1 (number_of x 1) (box 1 (omega arith)) in
+    grid_parts (number_of x 0) (number_of x 1) e first.low second.low second.high is
+
+grid_steps : (t : Tree) → depth_of t ≡ 1 → (d : ℕ) → d < 1 → IsStep (grid_course t) (known_at (grid_course t) (2 ∷ 3 ∷ []) d) (stride_at (grid_course t) d)
+grid_steps t one zero low = (
+  record { reference = omega arith; located = refl; there = omega (arith, one) },
+  (
+    omega arith,
+    refl,
+    (λ p x e long wide agree box is. ap (λ z. Some z) (box_parts t x e box is).0),
+    (omega arith, refl, (λ p x e long wide agree box is. ap (λ z. Some z) (box_parts t x e box is).1), grid_depends t),
+  ),
+)
+grid_steps t one (suc d) low = absurd (omega (arith, low))
+
+grid_slopes : (d : ℕ) → d < 1 → HasSlope grid_way (stride_in grid_way d)
+grid_slopes zero low = tt
+grid_slopes (suc d) low = absurd (omega (arith, low))
+
+grid_located : (t : Tree) → depth_of t ≡ 1 → (r : ℕ) → r < 1 → (known_at (grid_course t) (2 ∷ 3 ∷ []) 1).located r ≡ depth_of ((grid_course t).tree r)
+grid_located t one zero low = sym one
+grid_located t one (suc r) low = absurd (omega (arith, low))
+
+pub grid_is_way : (t : Tree) → IsTree t → depth_of t ≡ 1 → IsWay grid_way (t ∷ [])
+grid_is_way t is one = record {
+  course = record {
+    references = omega arith;
+    trees = (λ r low. is);
+    starts = record {
+      point = refl;
+      leaves = refl;
+      idle = unused_after (grid_course t) (2 ∷ 3 ∷ []) refl refl refl refl refl (λ among. absurd cc) refl none_past;
+      roots = (λ r low. all_roots r (omega (arith, low)));
+    };
+    settled = record { tests = (λ x y agree. refl); ready = tt };
+    steps = grid_steps t one;
+    due = (λ d low. record { tests = (λ x y agree. refl); ready = tt });
+    done = record { bound = rows_bound; located = grid_located t one };
+    few = omega arith;
+  };
+  near = rows_near;
+  slopes = grid_slopes;
   some = omega arith;
 }

@@ -1,7 +1,7 @@
 -- The plans of the tests.
-use Rattle.std.specs.Prelude.{ℕ, ◌==◌, true, if◌then◌else◌, List, [], ◌∷◌, None, ℤ, pos, ◌+ℤ◌}
+use Rattle.std.specs.Prelude.{ℕ, ◌==◌, ◌/◌, ◌%◌, true, if◌then◌else◌, List, [], ◌∷◌, Some, None, ℤ, pos, ◌+ℤ◌}
 use Rattle.bern_base.specs.Affine.{number_of}
-use Rattle.walks.specs.Courses.{Search, Range, Drive, Merge}
+use Rattle.walks.specs.Courses.{Search, Range, Drive, Flat, Merge}
 use Rattle.visits.specs.Ways.{Way}
 
 abbrev pub searches_at : ℕ → List Search
@@ -49,4 +49,22 @@ pair_way = record {
   base = λ r level v p. pos r;
   part = λ r v p e. None;
   shift = λ left left_level right right_level v p. pos 1;
+}
+
+-- V[3*i+j] in one packed level, for i 0..3 and j 0..3: its indices give both variables
+abbrev pub grid_way : Way
+grid_way = record {
+  references = 1;
+  strides = Flat 0 (0 ∷ 1 ∷ []) ∷ [];
+  unused = 2 ∷ 3 ∷ [];
+  low = λ v. pos 0;
+  high = square_ends;
+  test = λ d p. true;
+  searches = λ d. [];
+  view = λ r. 0;
+  index = λ r level p. number_of p 0 +ℤ number_of p 0 +ℤ number_of p 0 +ℤ number_of p 1;
+  slope = λ r level v. pos 1;
+  base = λ r level v p. pos 0;
+  part = λ r v p e. if v == 0 then Some (pos (e / 3)) else Some (pos (e % 3));
+  shift = λ left left_level right right_level v p. pos 0;
 }

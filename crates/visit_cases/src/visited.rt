@@ -2,8 +2,9 @@ ghost use Rattle.std.specs.Prelude.{◌≡◌, ◌<◌, true, IfOk, length, map}
 ghost use Rattle.bern_base.specs.Matrix.{IsMatrix};
 ghost use Rattle.format_model.specs.Trees.{depth_of, ordered_at};
 ghost use Rattle.visits.specs.Ways.{IsWay};
-ghost use Rattle.visit_cases.specs.Plans.{pair_way, rows_way};
+ghost use Rattle.visit_cases.specs.Plans.{grid_way, pair_way, rows_way};
 
+use crate::grid::GridRoute;
 use crate::pair::PairRoute;
 use crate::rows::RowsRoute;
 use access_joins::Access;
@@ -46,6 +47,18 @@ fn matrix_of(alloc: Global, rows: u32, cols: u32, entries: &[Entry]) -> Result<M
 fn one_view<V: Access + Drop>(alloc: Global, store: V) -> Result<Items<V>, NoMemory>
     requires { depth_of (V.tree store) ≡ 2 }
     ensures { IfOk result (λ views. IsWay rows_way (map V.tree views)) }
+{
+    let mut views = Items::new(alloc);
+    match views.push(store) {
+        Ok(()) => Ok(views),
+        Err(error) => Err(error),
+    }
+}
+
+/// The view of a store with one level.
+fn grid_view<V: Access + Drop>(alloc: Global, store: V) -> Result<Items<V>, NoMemory>
+    requires { depth_of (V.tree store) ≡ 1 }
+    ensures { IfOk result (λ views. IsWay grid_way (map V.tree views)) }
 {
     let mut views = Items::new(alloc);
     match views.push(store) {
@@ -118,6 +131,15 @@ fn pair(alloc: Global) -> Result<Items<PackedStore>, Fail>
     Ok(two_views(alloc, left_store, right_store)?)
 }
 
+/// A vector with entries in the rows 1, 2 and 7.
+fn grid(alloc: Global) -> Result<Items<PackedStore>, Fail>
+    ensures { IfOk result (λ views. IsWay grid_way (map ⟦<PackedStore as Access>⟧.tree views)) }
+{
+    let matrix = matrix_of(alloc, 9, 1, &[entry(1, 0), entry(2, 0), entry(7, 0)])?;
+    let store = PackedStore::build(alloc, &matrix, Axis::Row, false, true)?;
+    Ok(grid_view(alloc, store)?)
+}
+
 #[test]
 fn each_entry_is_given_once_with_its_leaf(rt: HostRuntime) -> Result<(), Fail> {
     let alloc = rt.alloc();
@@ -166,6 +188,36 @@ fn a_merge_gives_the_rows_that_both_vectors_have(rt: HostRuntime) -> Result<(), 
         visited::<PairRoute, PackedStore, Brand>(
             alloc,
             &PairRoute,
+            &views,
+            &expected,
+            Blank::new(1)
+        )?
+    );
+    Ok(())
+}
+
+#[test]
+fn a_flat_step_gives_both_variables_of_an_index(rt: HostRuntime) -> Result<(), Fail> {
+    let alloc = rt.alloc();
+    let expected = [
+        Hit {
+            point: [0, 1, 0, 0],
+            leaves: [0, 0, 0, 0],
+        },
+        Hit {
+            point: [0, 2, 0, 0],
+            leaves: [1, 0, 0, 0],
+        },
+        Hit {
+            point: [2, 1, 0, 0],
+            leaves: [2, 0, 0, 0],
+        },
+    ];
+    let views = grid(alloc)?;
+    assert!(&rt;
+        visited::<GridRoute, PackedStore, Brand>(
+            alloc,
+            &GridRoute,
             &views,
             &expected,
             Blank::new(1)
