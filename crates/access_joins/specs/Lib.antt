@@ -1,3 +1,4 @@
+pub mod Cursors
 pub use Rattle.format_model.specs.Content
 pub use Rattle.format_model.specs.Grids
 pub use Rattle.format_model.specs.Levels

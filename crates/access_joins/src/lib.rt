@@ -5,8 +5,14 @@
 
 mod access;
 mod cells;
+mod drive;
 mod line;
+mod merge;
+mod range;
 
 pub use access::Access;
 pub use cells::Cells;
+pub use drive::DriveCursor;
 pub use line::Line;
+pub use merge::MergeCursor;
+pub use range::RangeCursor;
