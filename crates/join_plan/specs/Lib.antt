@@ -1,0 +1,6 @@
+pub mod Costs
+pub mod Least
+pub mod Progress
+pub mod Picks
+pub mod Tasks
+pub mod Steps

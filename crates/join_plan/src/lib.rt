@@ -1,0 +1,18 @@
+//! The scheduler: which join order of a term costs least.
+//!
+//! Arrays, variables, references, levels and depths count from 0.
+#![tactic(auto)]
+
+mod advance;
+mod best;
+mod candidates;
+mod price;
+mod progress;
+mod ready;
+mod scheduling;
+mod search;
+mod spent;
+mod task;
+mod waiting;
+
+pub use scheduling::schedule;
