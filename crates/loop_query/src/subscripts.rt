@@ -1,5 +1,7 @@
-ghost use Rattle.std.specs.Prelude.{◌≡◌, ◌<◌, false, length};
-ghost use Rattle.format_model.specs.Levels.{level_at, levels_of};
+ghost use Rattle.std.specs.Prelude.{◌≡◌, ◌<◌, [], ◌∷◌, false, slice_get};
+ghost use Rattle.std.specs.Option.{option_map};
+ghost use Rattle.format_model.specs.Axes.{across};
+ghost use Rattle.format_model.specs.Levels.{levels_of};
 ghost use Rattle.term_model.specs.Plans.{has_factor, is_both};
 ghost use Rattle.term_model.specs.Queries.{subscript_of};
 
@@ -14,20 +16,35 @@ pub fn has_factor(form: &Affine, var: u32) -> bool
     form.coefficients()[var as usize] != 0
 }
 
-/// The axis of a level of an array in this format; of the coordinate list's one level it is both.
-pub fn level_axis(shape: &Shape, level: u32) -> Axis
-    requires { level < length (levels_of shape.now) }
-    ensures { result ≡ (level_at (levels_of shape.now) level).axis }
+/// The axis of a level of a format, none where it has no such level; of the coordinate list's one level it is both.
+pub fn level_axis(shape: &Shape, level: u32) -> Option<Axis>
+    ensures { result ≡ option_map (λ l. l.axis) (slice_get (levels_of shape.now) level) }
 {
-    let outer = match shape {
-        Shape::DenseDense(outer) | Shape::DensePacked(outer) | Shape::PackedPacked(outer) => *outer,
-        Shape::ListTwo => Axis::Both,
-        _ => Axis::Row,
-    };
-    if level == 0 {
-        return outer;
+    match shape {
+        Shape::DenseOne | Shape::PackedOne | Shape::ListOne => one_level(Axis::Row, level),
+        Shape::ListTwo => one_level(Axis::Both, level),
+        Shape::DenseDense(outer) | Shape::DensePacked(outer) | Shape::PackedPacked(outer) => {
+            two_levels(*outer, level)
+        }
+        Shape::Jagged | Shape::Diagonal(_) | Shape::Permute(_) => two_levels(Axis::Row, level),
     }
-    across(outer)
+}
+
+fn one_level(axis: Axis, level: u32) -> Option<Axis>
+    ensures { result ≡ slice_get (axis ∷ []) level }
+{
+    if level == 0 { Some(axis) } else { None }
+}
+
+/// An outer level, and the inner one across it.
+fn two_levels(outer: Axis, level: u32) -> Option<Axis>
+    ensures { result ≡ slice_get (outer ∷ across outer ∷ []) level }
+{
+    match level {
+        0 => Some(outer),
+        1 => Some(across(outer)),
+        _ => None,
+    }
 }
 
 /// The subscript of a reference in a level on one axis, `Row` or `Col`.

@@ -210,11 +210,19 @@ fn the_most_terms_and_references_of_a_job(rt: HostRuntime) -> Result<(), Fail> {
 
 #[test]
 fn levels_have_the_axes_of_their_format(rt: HostRuntime) -> Result<(), Fail> {
-    assert_eq!(&rt; level_axis(&Shape::PackedOne, 0), Axis::Row);
-    assert_eq!(&rt; level_axis(&Shape::ListTwo, 0), Axis::Both);
-    assert_eq!(&rt; level_axis(&Shape::PackedPacked(Axis::Col), 0), Axis::Col);
-    assert_eq!(&rt; level_axis(&Shape::PackedPacked(Axis::Col), 1), Axis::Row);
-    assert_eq!(&rt; level_axis(&Shape::Jagged, 1), Axis::Col);
+    assert_eq!(&rt; level_axis(&Shape::PackedOne, 0), Some(Axis::Row));
+    assert_eq!(&rt; level_axis(&Shape::PackedOne, 1), None);
+    assert_eq!(&rt; level_axis(&Shape::ListTwo, 0), Some(Axis::Both));
+    assert_eq!(&rt;
+        level_axis(&Shape::PackedPacked(Axis::Col), 0),
+        Some(Axis::Col)
+    );
+    assert_eq!(&rt;
+        level_axis(&Shape::PackedPacked(Axis::Col), 1),
+        Some(Axis::Row)
+    );
+    assert_eq!(&rt; level_axis(&Shape::Jagged, 1), Some(Axis::Col));
+    assert_eq!(&rt; level_axis(&Shape::Jagged, 2), None);
     Ok(())
 }
 
