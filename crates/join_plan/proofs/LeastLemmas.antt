@@ -2,7 +2,7 @@
 use Rattle.std.proofs.Common.{◌≡◌, ◌∙◌, ℕ, zero, suc, ◌+◌, ◌-◌, ◌<◌, ◌≤◌, Bool, true, false, not, cond, List, [], ◌∷◌, ◌++◌, length, Option, Some, None, refl, sym, ap, subst, arith}
 use Rattle.std.specs.Prelude.{nat_lt}
 use Rattle.std.specs.List.{All, range_with_len}
-use Rattle.std.proofs.lemmas.Bool.{ltb-true, ltb-false}
+use Rattle.std.proofs.lemmas.Bool.{lt-ltb, ltb-true, ltb-false}
 use Rattle.std.proofs.lemmas.List.{append_assoc, append-nil}
 use Rattle.std.proofs.lemmas.List.Elements.{All-append, All-cons, All-nil}
 use Rattle.term_model.specs.declared.plan.PlanStep.{PlanStep}
@@ -90,29 +90,44 @@ least_of q m best is =
 -- ---- before the first step
 
 -- the variables that the nest does not have are bound
-pub first_marks : (n : ℕ) → n ≤ 4 → Marks (range_with_len n (4 - n)) (not (nat_lt 0 n) ∷ not (nat_lt 1 n) ∷ not (nat_lt 2 n) ∷ not (nat_lt 3 n) ∷ [])
-first_marks zero few zero below = refl
-first_marks zero few (suc zero) below = refl
-first_marks zero few (suc (suc zero)) below = refl
-first_marks zero few (suc (suc (suc zero))) below = refl
-first_marks (suc zero) few zero below = refl
-first_marks (suc zero) few (suc zero) below = refl
-first_marks (suc zero) few (suc (suc zero)) below = refl
-first_marks (suc zero) few (suc (suc (suc zero))) below = refl
-first_marks (suc (suc zero)) few zero below = refl
-first_marks (suc (suc zero)) few (suc zero) below = refl
-first_marks (suc (suc zero)) few (suc (suc zero)) below = refl
-first_marks (suc (suc zero)) few (suc (suc (suc zero))) below = refl
-first_marks (suc (suc (suc zero))) few zero below = refl
-first_marks (suc (suc (suc zero))) few (suc zero) below = refl
-first_marks (suc (suc (suc zero))) few (suc (suc zero)) below = refl
-first_marks (suc (suc (suc zero))) few (suc (suc (suc zero))) below = refl
-first_marks (suc (suc (suc (suc zero)))) few zero below = refl
-first_marks (suc (suc (suc (suc zero)))) few (suc zero) below = refl
-first_marks (suc (suc (suc (suc zero)))) few (suc (suc zero)) below = refl
-first_marks (suc (suc (suc (suc zero)))) few (suc (suc (suc zero))) below = refl
-first_marks (suc (suc (suc (suc (suc n))))) few v below = absurd (omega (arith, few))
-first_marks n few (suc (suc (suc (suc v)))) below = absurd (omega (arith, below))
+all_free : (n : ℕ) → 4 < n → Marks [] (not (nat_lt 0 n) ∷ not (nat_lt 1 n) ∷ not (nat_lt 2 n) ∷ not (nat_lt 3 n) ∷ [])
+all_free n many zero below = ap not (lt-ltb 0 n (omega (arith, many)))
+all_free n many (suc zero) below = ap not (lt-ltb 1 n (omega (arith, many)))
+all_free n many (suc (suc zero)) below = ap not (lt-ltb 2 n (omega (arith, many)))
+all_free n many (suc (suc (suc zero))) below = ap not (lt-ltb 3 n (omega (arith, many)))
+all_free n many (suc (suc (suc (suc v)))) below = absurd (omega (arith, below))
+
+pub first_marks : (n : ℕ) → Marks (range_with_len n (4 - n)) (not (nat_lt 0 n) ∷ not (nat_lt 1 n) ∷ not (nat_lt 2 n) ∷ not (nat_lt 3 n) ∷ [])
+first_marks zero zero below = refl
+first_marks zero (suc zero) below = refl
+first_marks zero (suc (suc zero)) below = refl
+first_marks zero (suc (suc (suc zero))) below = refl
+first_marks zero (suc (suc (suc (suc v)))) below = absurd (omega (arith, below))
+first_marks (suc zero) zero below = refl
+first_marks (suc zero) (suc zero) below = refl
+first_marks (suc zero) (suc (suc zero)) below = refl
+first_marks (suc zero) (suc (suc (suc zero))) below = refl
+first_marks (suc zero) (suc (suc (suc (suc v)))) below = absurd (omega (arith, below))
+first_marks (suc (suc zero)) zero below = refl
+first_marks (suc (suc zero)) (suc zero) below = refl
+first_marks (suc (suc zero)) (suc (suc zero)) below = refl
+first_marks (suc (suc zero)) (suc (suc (suc zero))) below = refl
+first_marks (suc (suc zero)) (suc (suc (suc (suc v)))) below = absurd (omega (arith, below))
+first_marks (suc (suc (suc zero))) zero below = refl
+first_marks (suc (suc (suc zero))) (suc zero) below = refl
+first_marks (suc (suc (suc zero))) (suc (suc zero)) below = refl
+first_marks (suc (suc (suc zero))) (suc (suc (suc zero))) below = refl
+first_marks (suc (suc (suc zero))) (suc (suc (suc (suc v)))) below = absurd (omega (arith, below))
+first_marks (suc (suc (suc (suc zero)))) zero below = refl
+first_marks (suc (suc (suc (suc zero)))) (suc zero) below = refl
+first_marks (suc (suc (suc (suc zero)))) (suc (suc zero)) below = refl
+first_marks (suc (suc (suc (suc zero)))) (suc (suc (suc zero))) below = refl
+first_marks (suc (suc (suc (suc zero)))) (suc (suc (suc (suc v)))) below = absurd (omega (arith, below))
+first_marks (suc (suc (suc (suc (suc n))))) v below = subst (λ k. Marks (range_with_len (suc (suc (suc (suc (suc n))))) k)
+    (not (nat_lt 0 (suc (suc (suc (suc (suc n)))))) ∷ not (nat_lt 1 (suc (suc (suc (suc (suc n)))))) ∷ not (nat_lt 2 (suc (suc (suc (suc (suc n)))))) ∷ not (nat_lt 3 (suc (suc (suc (suc (suc n)))))) ∷ [])) (sym none) (all_free (suc (suc (suc (suc (suc n))))) (omega arith)) v below
+  where
+    none : 4 - suc (suc (suc (suc (suc n)))) ≡ 0
+    none = omega arith
 
 -- what the code keeps of a plan is its cost and its steps
 pub found_is : (cost : Option ℕ) (steps : List PlanStep) (found : Priced) → seen_by cost steps ≡ Some found → (cost ≡ Some found.cost) × (steps ≡ found.steps)

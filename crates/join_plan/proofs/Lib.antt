@@ -6,3 +6,4 @@ pub mod StepLemmas
 pub mod PayLemmas
 pub mod PickLemmas
 pub mod LeastLemmas
+pub mod TextLemmas

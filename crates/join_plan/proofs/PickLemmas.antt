@@ -52,7 +52,7 @@ priced_step q m k many spent prefix s rest =
     by_sum : (a b c : ℕ) → spent + (a + b + c) ≡ spent + (a + b) + c
     by_sum a b c = omega arith
 
-filter_more : (p : PlanStep → Bool) (xs ys : List PlanStep) → filter p (xs ++ ys) ≡ filter p xs ++ filter p ys
+pub filter_more : {X : Type 0} (p : X → Bool) (xs ys : List X) → filter p (xs ++ ys) ≡ filter p xs ++ filter p ys
 filter_more p [] ys = refl
 filter_more p (x ∷ xs) ys = at (p x) (filter_more p xs ys)
   where
@@ -124,7 +124,7 @@ tried_more q m k many spent n p0 p1 b0 b1 b2 xs ys same first second =
     ∙ sym (pick_following (priced q m k many spent p0) q n k b0 xs ys)
 
 -- one line of a table more
-pub table_more : (g : ℕ → List PlanStep) (r : ℕ) → flat_map g (range_with_len 0 (r + 1)) ≡ flat_map g (range_with_len 0 r) ++ g r
+pub table_more : {X : Type 0} (g : ℕ → List X) (r : ℕ) → flat_map g (range_with_len 0 (r + 1)) ≡ flat_map g (range_with_len 0 r) ++ g r
 table_more g r =
     ap (flat_map g) (range_more 0 r ∙ ap (λ x. range_with_len 0 r ++ x ∷ []) (zero-add r)) ∙ flat_map-append g (range_with_len 0 r) (r ∷ []) ∙ ap (λ xs. flat_map g (range_with_len 0 r) ++ xs) (append-nil (g r))
 

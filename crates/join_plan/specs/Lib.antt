@@ -4,3 +4,4 @@ pub mod Progress
 pub mod Picks
 pub mod Tasks
 pub mod Steps
+pub mod PlanText

@@ -13,6 +13,8 @@ mod scheduling;
 mod search;
 mod spent;
 mod task;
+mod text;
 mod waiting;
 
 pub use scheduling::schedule;
+pub use text::plan_text;

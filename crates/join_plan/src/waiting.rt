@@ -13,7 +13,7 @@ pub(crate) struct Awaited {
 }
 
 /// Whether a subscript waits for this variable: it counts for it and is not bound.
-fn is_waiting(form: &Affine, bound: &[bool; 4], var: u32) -> bool
+pub(crate) fn is_waiting(form: &Affine, bound: &[bool; 4], var: u32) -> bool
     requires { var < 4 }
     ensures { (vs : List ℕ) → Marks vs bound.now → result ≡ (is_free vs var && has_factor form.now var) }
 {
