@@ -7,3 +7,4 @@ pub mod PayLemmas
 pub mod PickLemmas
 pub mod LeastLemmas
 pub mod TextLemmas
+pub mod MeasuredLemmas

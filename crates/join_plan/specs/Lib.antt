@@ -5,3 +5,5 @@ pub mod Picks
 pub mod Tasks
 pub mod Steps
 pub mod PlanText
+pub mod Searches
+pub mod Laws

@@ -23,7 +23,8 @@ impl<'a> Task<'a> {
     pub(crate) fn after(&self, progress: &Progress, step: PlanStep) -> Progress
         requires step { IsStepOf (length self.now.term.sparse) step }
         requires few { FewLevels (query_in self.now) }
-        ensures { (k : Known) → Knows k progress.now → is_ready (query_in self.now) k step ≡ true → Knows (after_step (query_in self.now) k step) result }
+        ensures { (k : Known) → Knows k progress.now → is_ready (query_in self.now) k step ≡ true →
+            Knows (after_step (query_in self.now) k step) result }
     {
         match step {
             PlanStep::Range { var } => Progress {
@@ -63,7 +64,8 @@ impl<'a> Task<'a> {
         requires there { reference < length self.now.term.sparse }
         requires few { FewLevels (query_in self.now) }
         ensures progress { (k : Known) → Knows k progress.now → Knows (searched_by (query_in self.now) k (reference ∷ [])) result.progress }
-        ensures weight { (k : Known) → Knows k progress.now → result.weight ≡ weight_of (measures_in self.now) (searches (query_in self.now) k (reference ∷ [])) }
+        ensures weight { (k : Known) → Knows k progress.now →
+            result.weight ≡ weight_of (measures_in self.now) (searches (query_in self.now) k (reference ∷ [])) }
         ensures modest { result.weight ≤ MOST_WEIGHT }
     {
         if self.can_search(progress, reference) {
@@ -89,7 +91,8 @@ impl<'a> Task<'a> {
         ensures progress { (k : Known) → Knows k progress.now →
             Knows (searched_by (query_in self.now) k (replicate (depth_of (query_in self.now) reference) reference)) result.progress }
         ensures weight { (k : Known) → Knows k progress.now →
-            result.weight ≡ weight_of (measures_in self.now) (searches (query_in self.now) k (replicate (depth_of (query_in self.now) reference) reference)) }
+            result.weight ≡
+            weight_of (measures_in self.now) (searches (query_in self.now) k (replicate (depth_of (query_in self.now) reference) reference)) }
         ensures modest { result.weight ≤ 2 * MOST_WEIGHT }
     {
         let depth = self.depth(reference);

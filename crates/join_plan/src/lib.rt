@@ -6,6 +6,7 @@
 mod advance;
 mod best;
 mod candidates;
+mod laws;
 mod price;
 mod progress;
 mod ready;
@@ -16,5 +17,6 @@ mod task;
 mod text;
 mod waiting;
 
+pub use laws::terms_can_be_scheduled;
 pub use scheduling::schedule;
 pub use text::plan_text;

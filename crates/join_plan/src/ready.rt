@@ -23,7 +23,8 @@ impl<'a> Task<'a> {
     fn is_given(&self, bound: &[bool; 4], reference: u32, level: u32) -> bool
         requires reference { reference < length self.now.term.sparse }
         requires level { level < depth_of (query_in self.now) reference }
-        ensures { (vs : List ℕ) → Marks vs bound.now → result ≡ is_given vs (level_at (query_in self.now) reference level).axis (sparse_at (query_in self.now) reference) }
+        ensures { (vs : List ℕ) → Marks vs bound.now →
+            result ≡ is_given vs (level_at (query_in self.now) reference level).axis (sparse_at (query_in self.now) reference) }
     {
         let subscripts = self.reference(reference);
         match self.stat(reference, level).axis {
@@ -51,7 +52,8 @@ impl<'a> Task<'a> {
     fn waits_for(&self, bound: &[bool; 4], reference: u32, level: u32, var: u32) -> bool
         requires reference { reference < length self.now.term.sparse }
         requires level { level < depth_of (query_in self.now) reference }
-        ensures { (vs : List ℕ) → Marks vs bound.now → result ≡ waits_for vs (level_at (query_in self.now) reference level).axis (sparse_at (query_in self.now) reference) var }
+        ensures { (vs : List ℕ) → Marks vs bound.now →
+            result ≡ waits_for vs (level_at (query_in self.now) reference level).axis (sparse_at (query_in self.now) reference) var }
     {
         let subscripts = self.reference(reference);
         match self.stat(reference, level).axis {

@@ -1,11 +1,11 @@
-ghost use Rattle.std.specs.Prelude.{◌≡◌, ℕ, ◌+◌, ◌-◌, ◌<◌, ◌≤◌, [], ◌∷◌, length};
-ghost use Rattle.std.specs.List.{All, flat_map};
-ghost use Rattle.smallvec.specs.SmallVec.{small_vec_len};
-ghost use Rattle.term_model.specs.Plans.{Known, candidates, drives, merges, places, plans_from};
-ghost use Rattle.join_plan.specs.Picks.{HasRoom, IsSpent, Keeps, following, pick, priced, seen};
+ghost use Rattle.std.specs.Prelude.{◌≡◌, ℕ, ◌+◌, ◌<◌, ◌≤◌, [], ◌∷◌, length};
+ghost use Rattle.std.specs.List.{All};
+ghost use Rattle.term_model.specs.Plans.{Known, candidates, plans_from};
+ghost use Rattle.join_plan.specs.Picks.{HasRoom, IsSpent, Keeps};
 ghost use Rattle.join_plan.specs.Progress.{Knows};
+ghost use Rattle.join_plan.specs.Searches.{PicksAfter, all_drives, all_merges, merges_with, plans_by};
 ghost use Rattle.join_plan.specs.Steps.{FewLevels, IsStepOf};
-ghost use Rattle.join_plan.specs.Tasks.{measures_in, query_in};
+ghost use Rattle.join_plan.specs.Tasks.{query_in};
 
 use crate::best::Best;
 use crate::candidates::{drives, merges, ranges};
@@ -31,7 +31,7 @@ pub(crate) fn explore(
     requires spent { IsSpent left spent.many spent.cost }
     ensures keeps { Keeps prefix.old best.old prefix.new best.new }
     ensures best { (k : Known) → Knows k progress.now →
-        seen best.new ≡ pick (priced (query_in task.now) (measures_in task.now) k spent.many spent.cost prefix.old.items) (seen best.old) (plans_from (query_in task.now) left k) }
+        PicksAfter task.now k spent prefix.old best.old best.new (plans_from (query_in task.now) left k) }
 {
     if !best.is_beaten_by(spent.cost) {
         return;
@@ -61,7 +61,7 @@ fn follow(
     requires spent { IsSpent (left + 1) spent.many spent.cost }
     ensures keeps { Keeps prefix.old best.old prefix.new best.new }
     ensures best { (k : Known) → Knows k progress.now →
-        seen best.new ≡ pick (priced (query_in task.now) (measures_in task.now) k spent.many spent.cost prefix.old.items) (seen best.old) (following (query_in task.now) left k (candidates (query_in task.now) k)) }
+        PicksAfter task.now k spent prefix.old best.old best.new (plans_by task.now left k (candidates (query_in task.now) k)) }
 {
     attempt_all(task, progress, left, spent, &ranges(), prefix, best);
     follow_drives(task, progress, left, spent, prefix, best);
@@ -84,7 +84,7 @@ fn follow_drives(
     requires spent { IsSpent (left + 1) spent.many spent.cost }
     ensures keeps { Keeps prefix.old best.old prefix.new best.new }
     ensures best { (k : Known) → Knows k progress.now →
-        seen best.new ≡ pick (priced (query_in task.now) (measures_in task.now) k spent.many spent.cost prefix.old.items) (seen best.old) (following (query_in task.now) left k (flat_map (drives k) (places (query_in task.now)))) }
+        PicksAfter task.now k spent prefix.old best.old best.new (plans_by task.now left k (all_drives task.now k)) }
 {
     let references = task.references();
     let mut reference = 0;
@@ -111,7 +111,7 @@ fn follow_merges(
     requires spent { IsSpent (left + 1) spent.many spent.cost }
     ensures keeps { Keeps prefix.old best.old prefix.new best.new }
     ensures best { (k : Known) → Knows k progress.now →
-        seen best.new ≡ pick (priced (query_in task.now) (measures_in task.now) k spent.many spent.cost prefix.old.items) (seen best.old) (following (query_in task.now) left k (flat_map (λ r. flat_map (merges k r) (places (query_in task.now))) (places (query_in task.now)))) }
+        PicksAfter task.now k spent prefix.old best.old best.new (plans_by task.now left k (all_merges task.now k)) }
 {
     let references = task.references();
     let mut reference = 0;
@@ -139,7 +139,7 @@ fn follow_partners(
     requires spent { IsSpent (left + 1) spent.many spent.cost }
     ensures keeps { Keeps prefix.old best.old prefix.new best.new }
     ensures best { (k : Known) → Knows k progress.now →
-        seen best.new ≡ pick (priced (query_in task.now) (measures_in task.now) k spent.many spent.cost prefix.old.items) (seen best.old) (following (query_in task.now) left k (flat_map (merges k reference) (places (query_in task.now)))) }
+        PicksAfter task.now k spent prefix.old best.old best.new (plans_by task.now left k (merges_with task.now k reference)) }
 {
     let references = task.references();
     let mut partner = 0;
@@ -168,7 +168,7 @@ fn attempt_all(
     requires spent { IsSpent (left + 1) spent.many spent.cost }
     ensures keeps { Keeps prefix.old best.old prefix.new best.new }
     ensures best { (k : Known) → Knows k progress.now →
-        seen best.new ≡ pick (priced (query_in task.now) (measures_in task.now) k spent.many spent.cost prefix.old.items) (seen best.old) (following (query_in task.now) left k (steps.now)) }
+        PicksAfter task.now k spent prefix.old best.old best.new (plans_by task.now left k steps.now) }
 {
     for step in steps {
         attempt(task, progress, left, spent, *step, prefix, best);
@@ -193,7 +193,7 @@ fn attempt(
     requires spent { IsSpent (left + 1) spent.many spent.cost }
     ensures keeps { Keeps prefix.old best.old prefix.new best.new }
     ensures best { (k : Known) → Knows k progress.now →
-        seen best.new ≡ pick (priced (query_in task.now) (measures_in task.now) k spent.many spent.cost prefix.old.items) (seen best.old) (following (query_in task.now) left k (step ∷ [])) }
+        PicksAfter task.now k spent prefix.old best.old best.new (plans_by task.now left k (step ∷ [])) }
 {
     if !task.is_ready(progress, step) {
         return;

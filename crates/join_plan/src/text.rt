@@ -93,7 +93,8 @@ fn append_waiting(
     bound: &[bool; 4],
     out: &mut Text,
 ) -> Result<(), NoMemory>
-    ensures { (vs : List ℕ) → Marks vs bound.now → OnOk result (out.new ≡ out.old ++ flat_map (variable_word nest.now) (waiting vs form.now)) }
+    ensures { (vs : List ℕ) → Marks vs bound.now →
+        OnOk result (out.new ≡ out.old ++ flat_map (variable_word nest.now) (waiting vs form.now)) }
 {
     let mut var = 0;
     'vars: while var < 4 {
@@ -111,10 +112,8 @@ fn append_flat(
     bound: &[bool; 4],
     out: &mut Text,
 ) -> Result<(), NoMemory>
-    ensures {
-        (vs : List ℕ) → Marks vs bound.now →
-        OnOk result (out.new ≡ out.old ++ flat_map (variable_word nest.now) (flat_variables vs (slice_get term.now.sparse reference)))
-    }
+    ensures { (vs : List ℕ) → Marks vs bound.now →
+        OnOk result (out.new ≡ out.old ++ flat_map (variable_word nest.now) (flat_variables vs (slice_get term.now.sparse reference))) }
 {
     let Some(found) = term.sparse.get(reference as usize) else {
         return Ok(());

@@ -6,9 +6,12 @@ use Rattle.join_plan.proofs.TextLemmas.{waited_more}
 use Rattle.join_plan.proofs.text.append_waiting.Goals as goal
 
 pub vars-preserved : goal.vars-preserved
-vars-preserved c = (omega (arith, c.vars-test.true), λ vs marks.
-    waited_more (variable_word c.args.nest.now) (λ v. is_free vs v && has_factor c.args.form.now v) c.vars.var c.is_waiting.result c.args.out.now c.vars.out _ c.vars-test.true
-    (c.is_waiting.ensures vs marks) (c.vars.invariant.1 vs marks) c.in_ok-append_where.ensures)
+vars-preserved c = (
+  omega (arith, c.vars-test.true),
+  λ vs marks.
+      waited_more (variable_word c.args.nest.now) (λ v. is_free vs v && has_factor c.args.form.now v) c.vars.var c.is_waiting.result c.args.out.now c.vars.out _ c.vars-test.true
+      (c.is_waiting.ensures vs marks) (c.vars.invariant.1 vs marks) c.in_ok-append_where.ensures,
+)
 
 pub returns : goal.returns
 returns c = λ vs marks.
