@@ -1,3 +1,6 @@
+ghost use Rattle.std.specs.Prelude.{◌≡◌};
+ghost use Rattle.term_model.specs.declared.plan.PlanStep.TheVariants as step;
+
 use crate::term::Term;
 use bern_base::Items;
 
@@ -32,6 +35,15 @@ pub enum PlanStep {
         right_level: u32,
         var: u32,
     },
+}
+
+/// A loop over the first variable; a short list of steps keeps it in places that it does not use.
+impl Default for PlanStep {
+    ghost is_default = { λ s. s ≡ step.Range 0 };
+
+    fn default() -> PlanStep {
+        PlanStep::Range { var: 0 }
+    }
 }
 
 /// For each nest of a job its terms in order, each with a join order.
