@@ -2,3 +2,4 @@ pub mod AdmittedLemmas
 pub mod BuildLemmas
 pub mod MarkLemmas
 pub mod OrderLemmas
+pub mod ReachLemmas

@@ -5,6 +5,7 @@ ghost use Rattle.bern_base.specs.declared.axes.Axis.{Axis};
 ghost use Rattle.bern_base.specs.declared.matrix.Matrix.{Matrix};
 ghost use Rattle.format_model.specs.Trees.{Describes};
 ghost use Rattle.formats.specs.Admitted.{PartsCanBeBuilt};
+ghost use Rattle.local_views.specs.Views.{IsReached};
 ghost use Rattle.stores_flat.specs.Changes.{SetsElement};
 ghost use Rattle.stores_flat.specs.Dense.{dense_shape};
 
@@ -21,4 +22,9 @@ pub fn a_set_store_describes_the_changed_part()
 /// What the rules of a job and the checks of its files let through, `build` can take: the part of each rank.
 pub fn admitted_parts_can_be_built()
     ensures { PartsCanBeBuilt }
+{}
+
+/// In a store of any format each line hangs below the root, so that the store of a part can be seen in the indices of the array.
+pub fn lines_hang_below_the_root()
+    ensures { (s : AnyStore) → IsReached (⟦<AnyStore as Access>⟧.tree s) }
 {}

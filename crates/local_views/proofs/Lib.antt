@@ -1,1 +1,3 @@
+pub mod FitLemmas
+pub mod InsideLemmas
 pub mod ViewLemmas

@@ -5,11 +5,10 @@ use Rattle.std.specs.List.{All}
 use Rattle.std.proofs.Math.Nat.{div-add-mod', mod-lt, mul-le-mul}
 use Rattle.std.proofs.lemmas.Bool.{cases_eq, cond-false, cond-true, eq-eqb, ne_eqb}
 use Rattle.std.proofs.lemmas.List.Elements.{All-head, All-tail}
-use Rattle.std.proofs.lemmas.Nat.{div-mul-add, mod-mul-add}
 use Rattle.bern_base.specs.declared.axes.Axis.{Axis}
 use Rattle.bern_base.specs.declared.axes.Axis.TheVariants as axis
 use Rattle.format_model.specs.Trees.{child_at}
-use Rattle.local_views.specs.Views.{Cut, IsCut, IsElsewhere, IsInCut, IsLocal, IsOwnBy, col_by, cut_of, global_col, global_index, global_row, moved_children, own_cols, row_by}
+use Rattle.local_views.specs.Views.{Cut, IsCut, IsElsewhere, IsInCut, IsLocal, IsOwnBy, col_by, cut_of, global_index, moved_children, own_cols, row_by}
 use Rattle.placement.specs.Placement.{Triple, owned_of}
 use Rattle.local_views.specs.ViewLaws.{index_once}
 

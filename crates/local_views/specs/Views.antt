@@ -1,15 +1,20 @@
 -- The tree and the elements of a part in the indices of the whole array.
-use Rattle.std.specs.Prelude.{◌≡◌, ◌≢◌, ℕ, ◌+◌, ◌*◌, ◌/◌, ◌%◌, ◌<◌, ◌≤◌, Bool, true, false, ◌&&◌, if◌then◌else◌, List, map, Option, Some, None}
+use Rattle.std.specs.Prelude.{◌≡◌, ◌≢◌, ℕ, ◌+◌, ◌*◌, ◌/◌, ◌%◌, ◌<◌, ◌≤◌, Bool, true, false, ◌&&◌, if◌then◌else◌, List, length, map, slice_index_or, Option, Some, None}
 use Rattle.std.specs.List.{All}
+use Rattle.bern_base.specs.Matrix.{IsMatrix}
 use Rattle.bern_base.specs.declared.axes.Axis.{Axis}
 use Rattle.bern_base.specs.declared.axes.Axis.TheVariants as axis
+use Rattle.bern_base.specs.declared.limits.TheConstants.{MOST_SIDE}
+use Rattle.bern_base.specs.declared.matrix.Matrix.{Matrix}
+use Rattle.bern_base.specs.declared.shape.Shape.{Shape}
 use Rattle.format_model.specs.Axes.{same_axis}
 use Rattle.format_model.specs.Content.{Content, One, Two}
 use Rattle.format_model.specs.Grids.{Grid}
 use Rattle.format_model.specs.Levels.{Level, level_at}
-use Rattle.format_model.specs.Trees.{IsParent, Tree, axis_at}
+use Rattle.format_model.specs.Laws.{Suits}
+use Rattle.format_model.specs.Trees.{Describes, IsParent, IsTree, Tree, axis_at, depth_of}
 use Rattle.format_model.specs.declared.limits.TheConstants.{MOST_INDEX}
-use Rattle.placement.specs.Placement.{Triple, global_of, owned_of}
+use Rattle.placement.specs.Placement.{IsPlacement, Triple, global_of, owned_of}
 
 -- a part of an array that is split along an axis: the columns of the array and those of the part, how many indices of the split
 -- axis the rank owns, and which each of them is
@@ -122,3 +127,24 @@ pub record IsLocal (cut : Cut) (level : Axis) (index local : ℕ) : Type 0 where
 -- the part has no index for one of the array
 abbrev pub IsElsewhere : Cut → Axis → ℕ → Type 0
 IsElsewhere cut level index = (local : ℕ) → IsInCut cut level local → global_index cut level local ≢ index
+
+-- ---- which stores can be seen so
+
+-- each line hangs below the root: the parents of level 1 are children of the root
+abbrev pub IsReached : Tree → Type 0
+IsReached t = (node : ℕ) → 1 < depth_of t → node < t.nodes 1 → (k : ℕ) × (k < length (t.children 0 0)) × ((slice_index_or (t.children 0 0) k (0, 0)).1 ≡ node)
+
+-- the part of a rank of an array of so many rows and columns, within the limits of a job, that is split along an axis
+pub record IsPartOf (split : Axis) (rows cols : ℕ) (ts : List Triple) (rank : ℕ) (part : Matrix) : Type 0 where
+  pub side : split ≢ axis.Both
+  pub few_rows : rows ≤ MOST_SIDE
+  pub few_cols : cols ≤ MOST_SIDE
+  pub by_row : split ≡ axis.Row → (length ts ≡ rows) × (part.rows ≡ owned_of ts rank) × (part.cols ≡ cols)
+  pub by_col : split ≡ axis.Col → (length ts ≡ cols) × (part.cols ≡ owned_of ts rank) × (part.rows ≡ rows)
+
+-- a store that describes the part of a rank can be seen in the indices of the array
+abbrev pub DescribedPartsFit : Type 0
+DescribedPartsFit =
+    (t : Tree) (s : Shape) (globals order : List ℕ) (split : Axis) (rows cols ranks rank : ℕ) (ts : List Triple) (part : Matrix) →
+    IsTree t → IsReached t → Describes t s globals order part → IsMatrix part → Suits s globals order part →
+    IsPlacement ranks ts → IsPartOf split rows cols ts rank part → Fits (cut_of split cols ts rank) t

@@ -6,5 +6,5 @@
 mod laws;
 mod view;
 
-pub use laws::a_view_lists_its_store_in_global_indices;
+pub use laws::{a_view_lists_its_store_in_global_indices, described_parts_fit};
 pub use view::LocalView;
