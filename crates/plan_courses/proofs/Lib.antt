@@ -1,6 +1,7 @@
 pub mod AnswerLemmas
 pub mod BoxLemmas
 pub mod DepthLemmas
+pub mod Examples
 pub mod FlatLemmas
 pub mod KnownLemmas
 pub mod LawLemmas
