@@ -1,5 +1,5 @@
 -- What is measured of the arrays of an accepted job is within the limits of the scheduler.
-use Rattle.std.proofs.Common.{◌≡◌, ◌∙◌, ℕ, zero, suc, ◌+◌, ◌*◌, ◌/◌, ◌%◌, ◌<◌, ◌≤◌, ◌==◌, min, Bool, true, false, cond, List, [], ◌∷◌, ◌++◌, length, length-append, Option, Some, None, slice_get, ⊎_elim, refl, sym, ap, subst, arith}
+use Rattle.std.proofs.Common.{◌≡◌, ◌∙◌, ℕ, zero, suc, ◌+◌, ◌*◌, ◌/◌, ◌%◌, ◌<◌, ◌≤◌, ◌==◌, min, Bool, true, false, cond, List, [], ◌∷◌, ◌++◌, length, length-append, Option, Some, None, slice_get, get_or, ⊎_elim, refl, sym, ap, subst, arith}
 use Rattle.std.specs.List.{All, Contains, range_with_len}
 use Rattle.std.proofs.Math.Nat.{add-mul, mul-le-mul_right, one-mul}
 use Rattle.std.proofs.lemmas.Bool.{cases_lt, ne_eqb}
@@ -31,10 +31,10 @@ use Rattle.loop_query.proofs.SizeLemmas.{terms_are_few}
 use Rattle.term_model.specs.declared.term.Term.{Term}
 use Rattle.term_model.specs.Queries.{IsMeasured}
 use Rattle.term_model.specs.Terms.{references_of, terms_of}
-use Rattle.join_plan.specs.Costs.{levels_in, stats_by, stats_of as measured_of}
+use Rattle.join_plan.specs.Costs.{levels_in, stats_at, stats_by, stats_of as measured_of}
 use Rattle.term_model.specs.Plans.{is_both}
 use Rattle.join_plan.specs.Laws.{HasOuterAxis, IsMeasuredWithin}
-use Rattle.join_plan.specs.Tasks.{CanSchedule, IsModest}
+use Rattle.join_plan.specs.Tasks.{AreSlight, CanSchedule, IsModest}
 
 -- ---- numbers
 
@@ -76,16 +76,11 @@ rounded_most a (suc b) = subst (λ t. cond t 0 (a / suc b + min 1 (a % suc b)) �
 
 -- ---- levels
 
-IsFew : List LevelStat → Type 0
-IsFew stats = (length stats ≤ 2) × All IsModest stats
-
-one_level : (a : Axis) (ordered : Bool) (lookup : Lookup) (n : ℕ) → n ≤ MOST_WEIGHT → IsFew (record { axis = a; ordered = ordered; estimate = n; weight = steps_of lookup n } ∷ [])
-unfolding IsFew
+one_level : (a : Axis) (ordered : Bool) (lookup : Lookup) (n : ℕ) → n ≤ MOST_WEIGHT → AreSlight (record { axis = a; ordered = ordered; estimate = n; weight = steps_of lookup n } ∷ [])
 one_level a ordered lookup n few = (omega arith, All-cons IsModest _ [] (record { estimate = few; weight = steps_most lookup n few }) (All-nil IsModest))
 
 two_levels : (a b : Axis) (first second : Bool) (outer inner : Lookup) (n m : ℕ) → n ≤ MOST_WEIGHT → m ≤ MOST_WEIGHT →
-    IsFew (record { axis = a; ordered = first; estimate = n; weight = steps_of outer n } ∷ record { axis = b; ordered = second; estimate = m; weight = steps_of inner m } ∷ [])
-unfolding IsFew
+    AreSlight (record { axis = a; ordered = first; estimate = n; weight = steps_of outer n } ∷ record { axis = b; ordered = second; estimate = m; weight = steps_of inner m } ∷ [])
 two_levels a b first second outer inner n m few more =
     (omega arith, All-cons IsModest _ (_ ∷ []) (record { estimate = few; weight = steps_most outer n few }) (All-cons IsModest _ [] (record { estimate = more; weight = steps_most inner m more }) (All-nil IsModest)))
 
@@ -102,7 +97,7 @@ across_one axis.Both one = one
 filled_few : (a : Axis) (m : Matrix) → length (filled_lines a m) ≤ extent_in a m
 filled_few a m = omega (arith, length-filter (is_filled a m.cols m.entries) (all_lines a m), count_by-le-length (is_filled a m.cols m.entries) (all_lines a m), length-range_with_len 0 (extent_in a m))
 
-levels_few : (s : Shape) (m : Matrix) → HasOffsets s → HasOuterAxis s → m.rows ≤ MOST_SIDE → m.cols ≤ MOST_SIDE → length m.entries ≤ MOST_WEIGHT → IsFew (stats_of s m)
+levels_few : (s : Shape) (m : Matrix) → HasOffsets s → HasOuterAxis s → m.rows ≤ MOST_SIDE → m.cols ≤ MOST_SIDE → length m.entries ≤ MOST_WEIGHT → AreSlight (stats_of s m)
 levels_few shape.DenseOne m offsets one rows cols few = one_level axis.Row true Direct m.rows (omega (arith, rows))
 levels_few shape.PackedOne m offsets one rows cols few = one_level axis.Row true Binary (length m.entries) few
 levels_few shape.ListOne m offsets one rows cols few = one_level axis.Row false Linear (length m.entries) few
@@ -127,30 +122,28 @@ levels_few (shape.Permute file) m offsets one rows cols few =
 there : {X : Type 0} (xs : List X) (k : ℕ) (x : X) → slice_get xs k ≡ Some x → Contains xs x
 there xs k x is = (k, slice_get_within xs k x is, sym (unwrap_or-slice_get xs k x) ∙ ap (λ o. unwrap_or o x) is)
 
-ref_few : (job : Checked) (stats : List Stats) (accepted : IsAccepted job) (ref : Ref) → IsMeasuredWithin job stats ref.array → IsFew (stats_by stats (Some ref))
+ref_few : (job : Checked) (stats : List Stats) (accepted : IsAccepted job) (ref : Ref) → IsMeasuredWithin job stats ref.array → AreSlight (stats_by stats (Some ref))
 ref_few job stats accepted ref is =
     let measured = is.measured in
-    subst (λ found. IsFew (levels_in found)) (sym measured.stats_is)
+    subst (λ found. AreSlight (levels_in found)) (sym measured.stats_is)
     (levels_few measured.format.shape measured.matrix (All-contains (λ f. HasOffsets f.shape) job.formats measured.format accepted.formats (there job.formats measured.array.format measured.format measured.format_is)) is.axis is.rows is.cols is.entries)
 
-none_few : (stats : List Stats) → IsFew (stats_by stats None)
-unfolding IsFew
+none_few : (stats : List Stats) → AreSlight (stats_by stats None)
 none_few stats = (omega arith, All-nil IsModest)
 
-found_few : (job : Checked) (stats : List Stats) (t : Term) → IsAccepted job → All (λ ref. IsMeasuredWithin job stats ref.array) t.sparse → (r : ℕ) → IsFew (measured_of stats t r)
-found_few job stats t accepted measured r = at (slice_get t.sparse r) refl
+-- what holds of the levels of each reference's array holds by place
+pub found_few : (stats : List Stats) (t : Term) → All (λ ref. AreSlight (stats_at stats ref.array)) t.sparse → (r : ℕ) → AreSlight (measured_of stats t r)
+found_few stats t few r = at (slice_get t.sparse r) refl
   where
-    at : (found : Option Ref) → slice_get t.sparse r ≡ found → IsFew (stats_by stats found)
+    at : (found : Option Ref) → slice_get t.sparse r ≡ found → AreSlight (stats_by stats found)
     at None is = none_few stats
-    at (Some ref) is = ref_few job stats accepted ref (All-contains (λ u. IsMeasuredWithin job stats u.array) t.sparse ref measured (there t.sparse r ref is))
+    at (Some ref) is = All-contains (λ u. AreSlight (stats_at stats u.array)) t.sparse ref few (there t.sparse r ref is)
 
 pub can_schedule : (job : Checked) (nest : Nest) (t : Term) (stats : List Stats) → IsAccepted job → IsNestOf job nest → Contains (terms_of job nest.body) t →
     All (λ ref. IsMeasuredWithin job stats ref.array) t.sparse → CanSchedule (record { vars = nest.vars; term = t; stats = stats })
-unfolding IsFew
 can_schedule job nest t stats accepted is listed measured = record {
   variables = is.few;
   references = omega (arith, length-append t.dense t.sparse, All-contains (λ u. length (references_of u) ≤ 4) (terms_of job nest.body) t (terms_are_few job nest is).references listed);
   near = is.near;
-  levels = λ r. (found_few job stats t accepted measured r).0;
-  modest = λ r. (found_few job stats t accepted measured r).1;
+  levels = found_few stats t (λ k d below. ref_few job stats accepted (get_or t.sparse k d) (measured k d below));
 }

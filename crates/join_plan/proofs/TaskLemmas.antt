@@ -41,7 +41,7 @@ pub depth_is : (task : Task) (r : ℕ) → length (stats_of task.stats task.term
 depth_is task r = sym (length-map (stats_of task.stats task.term r) level_of_stat) ∙ ap length (sym (query_levels task r))
 
 pub few_levels : (task : Task) → CanSchedule task → FewLevels (query_in task)
-few_levels task can r = subst (λ n. n ≤ 2) (depth_is task r) (can.levels r)
+few_levels task can r = subst (λ n. n ≤ 2) (depth_is task r) (can.levels r).0
 
 pub level_is : (task : Task) (r level : ℕ) (other : LevelStat) → level < length (stats_of task.stats task.term r) →
     level_at (query_in task) r level ≡ level_of_stat (slice_index_or (stats_of task.stats task.term r) level other)

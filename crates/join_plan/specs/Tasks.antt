@@ -35,10 +35,13 @@ pub record IsModest (stat : LevelStat) : Type 0 where
   pub estimate : stat.estimate ≤ MOST_WEIGHT
   pub weight : stat.weight ≤ MOST_WEIGHT
 
+-- at most two such levels
+abbrev pub AreSlight : List LevelStat → Type 0
+AreSlight stats = (length stats ≤ 2) × All IsModest stats
+
 -- as the limits of jobs and files have it: few variables, references and levels, and bounds of loops within their limit
 pub record CanSchedule (task : Task) : Type 0 where
   pub variables : length task.vars ≤ MOST_VARIABLES
   pub references : length task.term.sparse ≤ MOST_REFERENCES
   pub near : All IsNear task.vars
-  pub levels : (r : ℕ) → length (stats_of task.stats task.term r) ≤ 2
-  pub modest : (r : ℕ) → All IsModest (stats_of task.stats task.term r)
+  pub levels : (r : ℕ) → AreSlight (stats_of task.stats task.term r)

@@ -7,6 +7,7 @@ mod advance;
 mod best;
 mod candidates;
 mod laws;
+mod limits;
 mod price;
 mod progress;
 mod ready;
@@ -18,5 +19,6 @@ mod text;
 mod waiting;
 
 pub use laws::terms_can_be_scheduled;
+pub use limits::can_schedule;
 pub use scheduling::schedule;
 pub use text::plan_text;
