@@ -26,9 +26,13 @@ use Rattle.format_model.specs.Content.{columns_of, diagonal_columns}
 use Rattle.format_model.specs.Laws.{Suits}
 use Rattle.format_model.specs.Stored.{element_at, stored_elements}
 use Rattle.format_model.specs.Weights.{shape_weight}
-use Rattle.formats.specs.Admitted.{HasLevels, HasOrder, PartsCanBeBuilt}
+use Rattle.formats.specs.Admitted.{HasLevels, HasOrder, PartsCanBeBuilt, PartsCanBeViewed}
+use Rattle.formats.specs.AnyStores.{any_is_tree, any_tree}
 use Rattle.formats.specs.Builds.{HasDiagonals}
 use Rattle.formats.proofs.BuildLemmas.{diagonals_count}
+use Rattle.formats.proofs.ReachLemmas.{any_reached}
+use Rattle.local_views.specs.Views.{Fits, cut_of}
+use Rattle.local_views.proofs.FitLemmas.{described-parts_fit, part-is_part}
 use Rattle.placement.specs.Part.{extent_on, is_owned, localized, part_of}
 use Rattle.placement.specs.Placement.{IsPlacement, Triple, owned_indices, owned_of}
 use Rattle.placement.specs.PlacementLaws.{global-below}
@@ -227,3 +231,13 @@ parts-can-be-built decl format ranks order m ts p a placed extent =
       small = let most : part.rows * part.cols ≤ MOST_SIDE * MOST_SIDE = mul-le-mul {n₂ = MOST_SIDE} {m₂ = MOST_SIDE} (omega (arith, is.rows, sizes.0, a.rows)) (omega (arith, is.cols, sizes.1, a.cols)) in omega (arith, most);
       diagonals = diagonals_of format.shape decl ranks order globals m part fit;
     }
+
+pub parts-can-be-viewed : PartsCanBeViewed
+parts-can-be-viewed decl format ranks order m ts p s a placed extent described =
+    let part : Matrix = (part_of decl.axis ts p m).matrix in
+    let globals : List ℕ = (part_of decl.axis ts p m).globals in
+    let can = parts-can-be-built decl format ranks order m ts p a placed extent in
+    let sizes = sizes_of decl.rows decl.cols m (astray_rule format.shape m) a.checked in
+    subst (λ n. Fits (cut_of decl.axis n ts p) (any_tree s)) sizes.1
+    (described-parts_fit (any_tree s) format.shape globals order decl.axis m.rows m.cols ranks p ts part (any_is_tree s) (any_reached s) described can.matrix can.suits placed
+    (part-is_part decl.axis m ts p a.side (omega (arith, sizes.0, a.rows)) (omega (arith, sizes.1, a.cols)) extent))

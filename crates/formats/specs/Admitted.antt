@@ -14,7 +14,11 @@ use Rattle.bern_base.specs.declared.shape.Shape.TheVariants as shape
 use Rattle.format_model.specs.Checks.{shape_rule}
 use Rattle.format_model.specs.Laws.{IsSide}
 use Rattle.format_model.specs.Weights.{shape_weight}
+use Rattle.format_model.specs.Trees.{Describes}
+use Rattle.formats.specs.AnyStores.{any_tree}
 use Rattle.formats.specs.Builds.{CanBuild}
+use Rattle.formats.specs.declared.any_store.AnyStore.{AnyStore}
+use Rattle.local_views.specs.Views.{Fits, cut_of}
 use Rattle.placement.specs.Part.{extent_on, part_of}
 use Rattle.placement.specs.Placement.{IsPlacement, Triple}
 
@@ -53,3 +57,11 @@ PartsCanBeBuilt =
     (decl : ArrayDecl) (format : FormatDecl) (ranks : ℕ) (order : List ℕ) (m : Matrix) (ts : List Triple) (p : ℕ) →
     IsAdmitted decl format ranks order m → IsPlacement ranks ts → extent_on decl.axis m.rows m.cols ≡ length ts →
     CanBuild format.shape (part_of decl.axis ts p m).globals order (part_of decl.axis ts p m).matrix
+
+-- and a store that describes such a part can be seen in the indices of the array
+abbrev pub PartsCanBeViewed : Type 0
+PartsCanBeViewed =
+    (decl : ArrayDecl) (format : FormatDecl) (ranks : ℕ) (order : List ℕ) (m : Matrix) (ts : List Triple) (p : ℕ) (s : AnyStore) →
+    IsAdmitted decl format ranks order m → IsPlacement ranks ts → extent_on decl.axis m.rows m.cols ≡ length ts →
+    Describes (any_tree s) format.shape (part_of decl.axis ts p m).globals order (part_of decl.axis ts p m).matrix →
+    Fits (cut_of decl.axis decl.cols ts p) (any_tree s)

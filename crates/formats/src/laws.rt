@@ -4,7 +4,7 @@ ghost use Rattle.std.specs.Prelude.{◌≡◌, ℕ, List, Bool};
 ghost use Rattle.bern_base.specs.declared.axes.Axis.{Axis};
 ghost use Rattle.bern_base.specs.declared.matrix.Matrix.{Matrix};
 ghost use Rattle.format_model.specs.Trees.{Describes};
-ghost use Rattle.formats.specs.Admitted.{PartsCanBeBuilt};
+ghost use Rattle.formats.specs.Admitted.{PartsCanBeBuilt, PartsCanBeViewed};
 ghost use Rattle.local_views.specs.Views.{IsReached};
 ghost use Rattle.stores_flat.specs.Changes.{SetsElement};
 ghost use Rattle.stores_flat.specs.Dense.{dense_shape};
@@ -27,4 +27,9 @@ pub fn admitted_parts_can_be_built()
 /// In a store of any format each line hangs below the root, so that the store of a part can be seen in the indices of the array.
 pub fn lines_hang_below_the_root()
     ensures { (s : AnyStore) → IsReached (⟦<AnyStore as Access>⟧.tree s) }
+{}
+
+/// A store that describes the part of a rank, of an array that was let through, can be seen in the indices of the array.
+pub fn admitted_parts_can_be_viewed()
+    ensures { PartsCanBeViewed }
 {}

@@ -17,7 +17,8 @@ pub use any_store::AnyStore;
 pub use building::build;
 pub use checks::{check_astray, check_shape, check_sizes};
 pub use laws::{
-    a_set_store_describes_the_changed_part, admitted_parts_can_be_built, lines_hang_below_the_root,
+    a_set_store_describes_the_changed_part, admitted_parts_can_be_built,
+    admitted_parts_can_be_viewed, lines_hang_below_the_root,
 };
 pub use order::{OrderError, check_order};
 pub use statistics::stats;

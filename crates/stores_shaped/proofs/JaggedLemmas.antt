@@ -1,5 +1,5 @@
 -- What the calls of a jagged store read, and that its arrays describe the part.
-use Rattle.std.proofs.Common.{◌≡◌, ℕ, zero, suc, ◌+◌, ◌-◌, ◌^◌, ◌<◌, ◌≤◌, List, [], ◌∷◌, length, map, get_or, None, Some, true, false, cond, refl, sym, ap, ◌∙◌, subst, arith}
+use Rattle.std.proofs.Common.{◌≡◌, ℕ, zero, suc, ◌+◌, ◌-◌, ◌^◌, ◌<◌, ◌≤◌, List, [], length, map, get_or, None, Some, true, false, cond, refl, sym, ap, ◌∙◌, subst, arith}
 use Rattle.std.specs.List.{All, range_with_len, slice_get}
 use Rattle.std.specs.Option.{option_map}
 use Rattle.std.specs.Prelude.{◌==◌}
@@ -17,6 +17,7 @@ use Rattle.format_model.specs.Levels.{bits}
 use Rattle.format_model.specs.Made.{length-made, made, made_at, made_found, made_none}
 use Rattle.format_model.specs.Trees.{Describes, IsParent, child_at, weight_at}
 use Rattle.format_model.proofs.ContentLemmas.{row_side}
+use Rattle.format_model.proofs.GridLemmas.{map-shifted}
 use Rattle.stores_packed.specs.Lines.{IsFilled, stretch}
 use Rattle.stores_packed.specs.Packed.{RisesBetween, placed}
 use Rattle.stores_packed.proofs.RangeLemmas.{range_same}
@@ -134,13 +135,6 @@ is_jagged m rows from columns held inverse starts indices values a =
           omega (arith, less, dealt_index m rows from columns held inverse starts indices values a place i low' (omega (arith, up, last')), dealt_index m rows from columns held inverse starts indices values a place j low' last');
     }
 
--- a range from another start on
-shifted : {X : Type 0} (f : ℕ → X) (a b n : ℕ) → map (λ d. f (a + d)) (range_with_len b n) ≡ map f (range_with_len (a + b) n)
-shifted f a b zero = refl
-shifted f a b (suc n) =
-    let next : a + (b + 1) ≡ a + b + 1 = omega arith in
-    ap (λ xs. f (a + b) ∷ xs) (shifted f a (b + 1) n) ∙ ap (λ k. f (a + b) ∷ map f (range_with_len k n)) next
-
 -- the leaves below a place are those of its row
 place_leaves : (m : Matrix) (rows : List RowCount) (from columns held inverse starts indices values : List ℕ) → AreMade m rows from columns held inverse starts indices values
     → (place : ℕ) → place < length rows
@@ -157,7 +151,7 @@ place_leaves m rows from columns held inverse starts indices values a place low 
     let there : d < r.count = omega arith in
     ap (λ i. (i, get_or values (jagged_leaf starts place d) 0)) (dealt_index m rows from columns held inverse starts indices values a place d low there)
     ∙ ap (λ v. (get_or columns (get_or from r.row 0 + d) 0, v)) (a.dealt_values.same place d low (omega (arith, there, a.deep place low)) there))
-    ∙ shifted leaf (get_or from r.row 0) 0 r.count
+    ∙ sym (map-shifted leaf (get_or from r.row 0) 0 r.count)
     ∙ ap (λ b. map leaf (range_with_len b r.count)) (omega arith)
     ∙ at.leaves
 

@@ -140,30 +140,32 @@ fn grid(alloc: Global) -> Result<Items<PackedStore>, Fail>
     Ok(grid_view(alloc, store)?)
 }
 
+/// What the entries (0,1), (0,2) and (2,1) give, with the leaves 0, 1 and 2.
+const ENTRIES: [Hit; 3] = [
+    Hit {
+        point: [0, 1, 0, 0],
+        leaves: [0, 0, 0, 0],
+    },
+    Hit {
+        point: [0, 2, 0, 0],
+        leaves: [1, 0, 0, 0],
+    },
+    Hit {
+        point: [2, 1, 0, 0],
+        leaves: [2, 0, 0, 0],
+    },
+];
+
 #[test]
 fn each_entry_is_given_once_with_its_leaf(rt: HostRuntime) -> Result<(), Fail> {
     let alloc = rt.alloc();
-    let expected = [
-        Hit {
-            point: [0, 1, 0, 0],
-            leaves: [0, 0, 0, 0],
-        },
-        Hit {
-            point: [0, 2, 0, 0],
-            leaves: [1, 0, 0, 0],
-        },
-        Hit {
-            point: [2, 1, 0, 0],
-            leaves: [2, 0, 0, 0],
-        },
-    ];
     let views = square(alloc)?;
     assert!(&rt;
         visited::<RowsRoute, PackedStore, Brand>(
             alloc,
             &RowsRoute,
             &views,
-            &expected,
+            &ENTRIES,
             Blank::new(1)
         )?
     );
@@ -199,27 +201,13 @@ fn a_merge_gives_the_rows_that_both_vectors_have(rt: HostRuntime) -> Result<(), 
 #[test]
 fn a_flat_step_gives_both_variables_of_an_index(rt: HostRuntime) -> Result<(), Fail> {
     let alloc = rt.alloc();
-    let expected = [
-        Hit {
-            point: [0, 1, 0, 0],
-            leaves: [0, 0, 0, 0],
-        },
-        Hit {
-            point: [0, 2, 0, 0],
-            leaves: [1, 0, 0, 0],
-        },
-        Hit {
-            point: [2, 1, 0, 0],
-            leaves: [2, 0, 0, 0],
-        },
-    ];
     let views = grid(alloc)?;
     assert!(&rt;
         visited::<GridRoute, PackedStore, Brand>(
             alloc,
             &GridRoute,
             &views,
-            &expected,
+            &ENTRIES,
             Blank::new(1)
         )?
     );
