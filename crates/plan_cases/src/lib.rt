@@ -1,0 +1,5 @@
+//! Tests of `join_plan`, in a crate of their own: a crate that holds tests is proved once more with them.
+#![tactic(auto)]
+
+#[cfg(test)]
+mod plans;
