@@ -167,9 +167,9 @@ impl<S: Access, P: Placement> LocalView<S, P> {
         if index >= self.end {
             return None;
         }
-        let index = index as u32;
-        if self.place.owner(index) == self.rank {
-            Some(self.place.local(index) as u64)
+        let seat = self.place.seat(index as u32);
+        if seat.owner == self.rank {
+            Some(seat.local as u64)
         } else {
             None
         }
