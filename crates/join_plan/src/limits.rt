@@ -5,7 +5,8 @@ ghost use Rattle.join_plan.specs.Costs.{stats_at};
 ghost use Rattle.join_plan.specs.Tasks.{AreSlight, CanSchedule, IsModest};
 
 use bern_base::{
-    Items, LevelStat, MOST_BOUND, MOST_REFERENCES, MOST_VARIABLES, MOST_WEIGHT, Nest, Ref, Span, Stats,
+    Items, LevelStat, MOST_BOUND, MOST_REFERENCES, MOST_VARIABLES, MOST_WEIGHT, Nest, Ref, Span,
+    Stats,
 };
 use loop_query::Term;
 
