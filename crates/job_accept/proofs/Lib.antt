@@ -1,3 +1,5 @@
 pub mod ReadableLemmas
 pub mod AnswerLemmas
 pub mod OffsetLemmas
+pub mod FormatLemmas
+pub mod AxisLemmas

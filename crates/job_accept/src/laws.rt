@@ -1,6 +1,7 @@
 ghost use Rattle.std.specs.Prelude.{ℕ, List};
 ghost use Rattle.bern_base.specs.declared.job.Checked.{Checked};
 ghost use Rattle.job_model.specs.Accepted.{IsAccepted};
+ghost use Rattle.job_accept.specs.Axes.{OuterAxesAreOne};
 ghost use Rattle.job_accept.specs.Front.{AcceptsBytes, BytesHaveOneAnswer};
 ghost use Rattle.job_accept.specs.Offsets.{OffsetsRise};
 
@@ -20,4 +21,10 @@ pub fn accepted_bytes_keep_the_rules()
 /// form. It does nothing.
 pub fn offsets_of_diagonals_rise()
     ensures { OffsetsRise }
+{}
+
+/// The law that the outer level of each format of two levels is on rows or on columns in what bytes are accepted as: a line
+/// with another has no form. It does nothing.
+pub fn outer_axes_are_one()
+    ensures { OuterAxesAreOne }
 {}

@@ -1,10 +1,9 @@
 -- Accepted jobs can be planned, and plans of least cost are plans by the formats of the job.
-use Rattle.std.proofs.Common.{◌≡◌, ◌∙◌, ℕ, zero, suc, ◌+◌, ◌<◌, ◌≤◌, List, [], ◌∷◌, ◌++◌, map, length, length-append, get_or, Option, Some, None, slice_get, refl, sym, ap, subst, lit<, arith}
+use Rattle.std.proofs.Common.{◌≡◌, ◌∙◌, ℕ, suc, ◌<◌, List, [], ◌∷◌, length, get_or, Some, slice_get, refl, sym, ap, subst, arith}
 use Rattle.std.specs.List.{All, AllZip, Contains, range_with_len}
 use Rattle.std.specs.Option.{option_map}
 use Rattle.std.proofs.Math.Nat.{zero-add}
-use Rattle.std.proofs.lemmas.List.{length-map}
-use Rattle.std.proofs.lemmas.List.Elements.{All-contains, All-append, All-cons, All-nil, Contains-append_right, Contains-get_or}
+use Rattle.std.proofs.lemmas.List.Elements.{All-contains, Contains-append_right, Contains-get_or}
 use Rattle.std.proofs.lemmas.List.FromFn.{get_or-range_with_len, length-range_with_len}
 use Rattle.std.proofs.lemmas.Option.{slice_get-get_or, slice_get-map, slice_get_within}
 use Rattle.bern_base.specs.declared.job.ArrayDecl.{ArrayDecl}
@@ -13,9 +12,8 @@ use Rattle.bern_base.specs.declared.job.FormatDecl.{FormatDecl}
 use Rattle.bern_base.specs.declared.job.Nest.{Nest}
 use Rattle.bern_base.specs.declared.job.Ref.{Ref}
 use Rattle.bern_base.specs.declared.matrix.Matrix.{Matrix}
-use Rattle.bern_base.specs.declared.stats.Stats.{Stats}
 use Rattle.format_model.specs.Estimates.{stats_of}
-use Rattle.job_model.specs.Accepted.{IsAccepted, IsArrayOf, IsNestOf, IsReadOf}
+use Rattle.job_model.specs.Accepted.{IsArrayOf, IsNestOf, IsReadOf}
 use Rattle.join_plan.specs.Laws.{HasOuterAxis, IsMeasuredWithin}
 use Rattle.join_plan.proofs.MeasuredLemmas.{can_schedule}
 use Rattle.loop_query.proofs.FreeLemmas.{contains_map}
@@ -27,11 +25,11 @@ use Rattle.term_model.specs.declared.plan.PlanStep.{PlanStep}
 use Rattle.term_model.specs.declared.plan.Plans.{Plans}
 use Rattle.term_model.specs.declared.term.Term.{Term}
 use Rattle.term_model.specs.Plans.{plans}
-use Rattle.term_model.specs.Queries.{ArePlanned, ArePlansOf, IsMeasured, levels_by, plan_of, plans_of, query}
+use Rattle.term_model.specs.Queries.{ArePlanned, ArePlansOf, levels_by, plan_of, plans_of, query}
 use Rattle.term_model.specs.Terms.{references_of, terms_of}
 use Rattle.job_plans.specs.Laws.{IsPlannable, IsWithin}
 use Rattle.job_plans.specs.Least.{AreLeast, AreScheduled, CanPlan, IsScheduled, measured, measured_as, measured_at, measured_in}
-use Rattle.job_plans.proofs.PlanLemmas.{all_there, there}
+use Rattle.job_plans.proofs.PlanLemmas.{all_there}
 
 -- what is measured of an array of the job
 measured_is : (job : Checked) (ms : List Matrix) (number : ℕ) (array : ArrayDecl) (format : FormatDecl) (m : Matrix) → slice_get job.arrays number ≡ Some array → slice_get job.formats array.format ≡ Some format →

@@ -1,8 +1,8 @@
 -- Plans, one term and one nest after the other.
-use Rattle.std.proofs.Common.{◌≡◌, ◌∙◌, ℕ, zero, suc, ◌<◌, List, [], ◌∷◌, ◌++◌, map, length, take, get_or, Option, Some, slice_get, refl, sym, ap, subst, arith}
+use Rattle.std.proofs.Common.{◌≡◌, ◌∙◌, ℕ, suc, List, [], ◌∷◌, ◌++◌, map, length, Some, slice_get, refl, sym, ap, subst, arith}
 use Rattle.std.specs.List.{All, AllZip, Contains}
 use Rattle.std.specs.Option.{unwrap_or}
-use Rattle.std.proofs.lemmas.List.{append_assoc, append-nil, map-append, take_more}
+use Rattle.std.proofs.lemmas.List.{append_assoc, append-nil, map-append}
 use Rattle.std.proofs.lemmas.List.Elements.{All-contains, All-push}
 use Rattle.std.proofs.lemmas.Option.{slice_get_within, unwrap_or-slice_get}
 use Rattle.bern_base.specs.declared.job.Checked.{Checked}
@@ -11,7 +11,7 @@ use Rattle.bern_base.specs.declared.stats.Stats.{Stats}
 use Rattle.term_model.specs.declared.plan.PlannedTerm.{PlannedTerm}
 use Rattle.term_model.specs.declared.term.Term.{Term}
 use Rattle.term_model.specs.Terms.{terms_of}
-use Rattle.job_plans.specs.Least.{AreScheduled, CanPlan, IsScheduled}
+use Rattle.job_plans.specs.Least.{AreScheduled, IsScheduled}
 use Rattle.join_plan.specs.Tasks.{CanSchedule}
 
 pub there : {X : Type 0} (xs : List X) (k : ℕ) (x : X) → slice_get xs k ≡ Some x → Contains xs x

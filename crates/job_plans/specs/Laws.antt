@@ -1,10 +1,9 @@
 -- The plans of accepted jobs.
-use Rattle.std.specs.Prelude.{◌≡◌, ℕ, ◌≤◌, List, length}
+use Rattle.std.specs.Prelude.{◌≡◌, ◌≤◌, List, length}
 use Rattle.std.specs.List.{All}
 use Rattle.bern_base.specs.declared.job.Checked.{Checked}
 use Rattle.bern_base.specs.declared.limits.TheConstants.{MOST_SIDE, MOST_WEIGHT}
 use Rattle.bern_base.specs.declared.matrix.Matrix.{Matrix}
-use Rattle.bern_base.specs.declared.stats.Stats.{Stats}
 use Rattle.job_model.specs.Accepted.{IsAccepted}
 use Rattle.join_plan.specs.Laws.{HasOuterAxis}
 use Rattle.term_model.specs.declared.plan.Plans.{Plans}

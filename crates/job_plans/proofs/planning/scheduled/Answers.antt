@@ -1,4 +1,4 @@
-use Rattle.std.proofs.Common.{◌≡◌, ◌∙◌, [], ◌∷◌, ◌++◌, length, sym, ap, subst, arith}
+use Rattle.std.proofs.Common.{◌≡◌, ◌∙◌, ◌∷◌, length, sym, ap, subst, arith}
 use Rattle.std.specs.Vec.Iter.{into_iter_items}
 use Rattle.term_model.specs.declared.plan.PlannedTerm.{PlannedTerm}
 use Rattle.job_plans.proofs.PlanLemmas.{ArePlannedSo, all_planned, first_can, none_left, planned_more}
