@@ -1,0 +1,4 @@
+pub use Rattle.format_model.specs.Grids
+pub use Rattle.format_model.specs.Trees
+pub use Rattle.local_views.specs.Views
+pub mod SetViews
