@@ -18,7 +18,7 @@ pub fn a_set_view_describes_the_changed_part<P: Placement>()
     ensures { (v w : View AnyStore P ⟦<AnyStore as Access>⟧ ⟦<P as Placement>⟧)
         (single : Bool) (outer : Axis) (old new : Matrix) (element value : ℕ) →
         SetsViewed (⟦<AnyStore as Cells>⟧.grid v.store) (⟦<LocalView<AnyStore, P> as Cells>⟧.grid v)
-            (⟦<LocalView<AnyStore, P> as Cells>⟧.grid w) single outer old new element value →
+        (⟦<LocalView<AnyStore, P> as Cells>⟧.grid w) single outer old new element value →
         HasElements (cut_of v.axis v.cols (P.triples v.place) v.rank) (⟦<AnyStore as Access>⟧.tree w.store)
-            (⟦<AnyStore as Cells>⟧.grid w.store) (⟦<LocalView<AnyStore, P> as Cells>⟧.grid w) single outer new }
+        (⟦<AnyStore as Cells>⟧.grid w.store) (⟦<LocalView<AnyStore, P> as Cells>⟧.grid w) single outer new }
 {}
