@@ -1,1 +1,4 @@
+pub mod LocalLemmas
 pub mod SetLemmas
+pub mod StoredLemmas
+pub mod ViewLemmas

@@ -1,10 +1,16 @@
 //! The laws of views. Each function does nothing: its contract is the law.
 
 ghost use Rattle.std.specs.Prelude.{ℕ, Bool};
+ghost use Rattle.bern_base.specs.declared.job.Checked.{Checked};
 ghost use Rattle.bern_base.specs.declared.axes.Axis.{Axis};
 ghost use Rattle.bern_base.specs.declared.matrix.Matrix.{Matrix};
+ghost use Rattle.formats.specs.declared.any_store.AnyStore.{AnyStore as Store};
 ghost use Rattle.local_views.specs.Views.{cut_of};
 ghost use Rattle.local_views.specs.declared.view.LocalView.{LocalView as View};
+ghost use Rattle.plan_courses.specs.JobCourses.{IsView};
+ghost use Rattle.term_model.specs.Activity.{Entries};
+ghost use Rattle.term_model.specs.Answers.{Places};
+ghost use Rattle.view_laws.specs.PartViews.{HoldsPart, ViewsOfPartsAreViews, view_at};
 ghost use Rattle.view_laws.specs.SetViews.{HasElements, SetsViewed};
 
 use access_joins::{Access, Cells};
@@ -21,4 +27,13 @@ pub fn a_set_view_describes_the_changed_part<P: Placement>()
         (⟦<LocalView<AnyStore, P> as Cells>⟧.grid w) single outer old new element value →
         HasElements (cut_of v.axis v.cols (P.triples v.place) v.rank) (⟦<AnyStore as Access>⟧.tree w.store)
         (⟦<AnyStore as Cells>⟧.grid w.store) (⟦<LocalView<AnyStore, P> as Cells>⟧.grid w) single outer new }
+{}
+
+/// The view of the part of a rank, of an array of a job, is what the job's loops ask for: lawful, with the levels of the array's
+/// format, and at each element that the rank owns searches lead to a leaf exactly where the array stores it.
+pub fn the_views_of_parts_are_views()
+    ensures trees { ViewsOfPartsAreViews }
+    ensures stores { (job : Checked) (entries : Entries) (places : Places) (ranks rank number : ℕ) (s : Store) →
+        (h : HoldsPart job entries places ranks rank number (⟦<AnyStore as Access>⟧.tree s)) →
+        IsView job entries places rank number (view_at places h.array rank (⟦<AnyStore as Access>⟧.tree s)) }
 {}
