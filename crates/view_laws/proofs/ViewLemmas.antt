@@ -27,7 +27,9 @@ use Rattle.placement.specs.Part.{extent_on, part_cols, part_of, part_rows}
 use Rattle.placement.specs.Placement.{Triple, owned_of}
 use Rattle.term_model.specs.Activity.{Entries}
 use Rattle.term_model.specs.Answers.{Places}
-use Rattle.view_laws.specs.PartViews.{HoldsPart, ViewsOfPartsAreViews, triples_of}
+use Rattle.plan_courses.specs.JobCourses.{IsView, ref_at}
+use Rattle.plan_courses.proofs.AnswerLemmas.{each_plan_walks_the_answer}
+use Rattle.view_laws.specs.PartViews.{HoldsPart, PlansOverViewsWalkTheAnswer, ViewsOfPartsAreViews, triples_of, view_at}
 use Rattle.view_laws.proofs.LocalLemmas.{IsAt, IsOwned, is_at, is_cut, is_local, local_col, local_row, own_rows, reached_moved, split_index, split_owned}
 use Rattle.view_laws.proofs.StoredLemmas.{stored_same}
 
@@ -148,8 +150,9 @@ module _ (job : Checked) (entries : Entries) (places : Places) (ranks rank numbe
       let own = split_owned array.axis ranks ts rank array.rows array.cols row col h.admitted.side h.placed h.extent high low owner in
       found row col high low own (is_at array.axis ts rank array.rows array.cols row col h.admitted.side high low own)
 
-pub views-of_parts-are_views : ViewsOfPartsAreViews
-views-of_parts-are_views job entries places ranks rank number t is under h = record {
+pub view_at-is_view : (job : Checked) (entries : Entries) (places : Places) (ranks rank number : ℕ) (t : Tree) → IsTree t → IsReached t →
+    (h : HoldsPart job entries places ranks rank number t) → IsView job entries places rank number (view_at places h.array rank t)
+view_at-is_view job entries places ranks rank number t is under h = record {
   array = h.array;
   format = h.format;
   array_is = h.array_is;
@@ -159,3 +162,11 @@ views-of_parts-are_views job entries places ranks rank number t is under h = rec
   outer = outer job entries places ranks rank number t is under h;
   stored = λ row col high low owner. stored job entries places ranks rank number t is under h row col high low owner ∙ ap (λ es. is_stored h.format.shape es row col) (sym h.entries_are);
 }
+
+pub views-of_parts-are_views : ViewsOfPartsAreViews
+views-of_parts-are_views job entries places ranks rank number view v =
+    subst (IsView job entries places rank number) (sym v.is) (view_at-is_view job entries places ranks rank number v.part v.lawful v.reached v.holds)
+
+pub plans-over_views-walk_the_answer : PlansOverViewsWalkTheAnswer
+plans-over_views-walk_the_answer job entries places nest t ranks rank tree plan is views =
+    each_plan_walks_the_answer job entries places nest t rank tree plan is (λ r low. views-of_parts-are_views job entries places ranks rank (ref_at t r).array (tree r) (views r low))

@@ -10,7 +10,7 @@ ghost use Rattle.local_views.specs.declared.view.LocalView.{LocalView as View};
 ghost use Rattle.plan_courses.specs.JobCourses.{IsView};
 ghost use Rattle.term_model.specs.Activity.{Entries};
 ghost use Rattle.term_model.specs.Answers.{Places};
-ghost use Rattle.view_laws.specs.PartViews.{HoldsPart, ViewsOfPartsAreViews, view_at};
+ghost use Rattle.view_laws.specs.PartViews.{HoldsPart, PlansOverViewsWalkTheAnswer, ViewsOfPartsAreViews, view_at};
 ghost use Rattle.view_laws.specs.SetViews.{HasElements, SetsViewed};
 
 use access_joins::{Access, Cells};
@@ -32,8 +32,14 @@ pub fn a_set_view_describes_the_changed_part<P: Placement>()
 /// The view of the part of a rank, of an array of a job, is what the job's loops ask for: lawful, with the levels of the array's
 /// format, and at each element that the rank owns searches lead to a leaf exactly where the array stores it.
 pub fn the_views_of_parts_are_views()
-    ensures trees { ViewsOfPartsAreViews }
+    ensures views { ViewsOfPartsAreViews }
     ensures stores { (job : Checked) (entries : Entries) (places : Places) (ranks rank number : ℕ) (s : Store) →
         (h : HoldsPart job entries places ranks rank number (⟦<AnyStore as Access>⟧.tree s)) →
         IsView job entries places rank number (view_at places h.array rank (⟦<AnyStore as Access>⟧.tree s)) }
+{}
+
+/// Over the views of a rank's parts the walk of every plan of a term gives the points of the nest that are at home at the rank and
+/// at which each sparse reference is stored, each once.
+pub fn plans_over_views_walk_the_answer()
+    ensures { PlansOverViewsWalkTheAnswer }
 {}
