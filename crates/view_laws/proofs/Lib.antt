@@ -1,4 +1,5 @@
 pub mod LocalLemmas
 pub mod SetLemmas
 pub mod StoredLemmas
+pub mod ValueLemmas
 pub mod ViewLemmas

@@ -64,7 +64,7 @@ and-swap false true c = refl
 and-swap false false c = refl
 
 -- the rank has an entry at the element of the part exactly where it stands at that of the array
-entry_told : (a : Axis) (ranks : ℕ) (ts : List Triple) (rank rows cols row col : ℕ) → a ≢ axis.Both → IsPlacement ranks ts → extent_on a rows cols ≡ length ts → IsOwned ts rank (split_index a row col) →
+pub entry_told : (a : Axis) (ranks : ℕ) (ts : List Triple) (rank rows cols row col : ℕ) → a ≢ axis.Both → IsPlacement ranks ts → extent_on a rows cols ≡ length ts → IsOwned ts rank (split_index a row col) →
     (e : Entry) → IsInside rows cols e → (is_owned a ts rank e && stands_at (local_row a ts row) (local_col a ts col) (localized a ts e)) ≡ stands_at row col e
 entry_told axis.Row ranks ts rank rows cols row col side placed extent own e inside =
     and-assoc (owner_of ts e.row == rank) (local_of ts e.row == local_of ts row) (e.col == col)

@@ -1,5 +1,5 @@
 -- The view of a rank's part is what the loops of a job ask for.
-use Rattle.std.proofs.Common.{◌≡◌, ◌≢◌, ℕ, zero, suc, ◌+◌, ◌*◌, ◌<◌, List, length, refl, sym, ap, ◌∙◌, subst, arith}
+use Rattle.std.proofs.Common.{◌≡◌, ◌≢◌, ℕ, zero, suc, ◌+◌, ◌*◌, ◌^◌, ◌<◌, ◌&&◌, true, List, length, None, Some, refl, sym, ap, ◌∙◌, subst, arith}
 use Rattle.std.specs.Option.{is_some, option_map}
 use Rattle.bern_base.specs.declared.axes.Axis.{Axis}
 use Rattle.bern_base.specs.declared.axes.Axis.TheVariants as axis
@@ -25,13 +25,23 @@ use Rattle.local_views.proofs.FitLemmas.{described-parts_fit, part-is_part}
 use Rattle.placement.specs.Elements.{owner_of_element}
 use Rattle.placement.specs.Part.{extent_on, part_cols, part_of, part_rows}
 use Rattle.placement.specs.Placement.{Triple, owned_of}
-use Rattle.term_model.specs.Activity.{Entries}
+use Rattle.term_model.specs.Activity.{Entries, entries_of}
 use Rattle.term_model.specs.Answers.{Places}
 use Rattle.plan_courses.specs.JobCourses.{IsView, ref_at}
 use Rattle.plan_courses.proofs.AnswerLemmas.{each_plan_walks_the_answer}
-use Rattle.view_laws.specs.PartViews.{HoldsPart, PlansOverViewsWalkTheAnswer, ViewsOfPartsAreViews, triples_of, view_at}
+use Rattle.view_laws.specs.PartViews.{HoldsPart, PlansOverViewsWalkTheAnswer, ViewsHaveTheValues, ViewsOfPartsAreViews, triples_of, view_at}
 use Rattle.view_laws.proofs.LocalLemmas.{IsAt, IsOwned, is_at, is_cut, is_local, local_col, local_row, own_rows, reached_moved, split_index, split_owned}
-use Rattle.view_laws.proofs.StoredLemmas.{stored_same}
+use Rattle.view_laws.proofs.StoredLemmas.{entry_told, stored_same}
+use Rattle.view_laws.proofs.ValueLemmas.{element_same, small_kept}
+use Rattle.std.specs.List.{All}
+use Rattle.std.proofs.lemmas.Bool.{cond-true}
+use Rattle.std.proofs.lemmas.List.Elements.{All-weaker}
+use Rattle.bern_base.specs.Matrix.{IsInside, element}
+use Rattle.bern_base.specs.declared.matrix.Entry.{Entry}
+use Rattle.format_model.specs.Stored.{has_entry_at, stands_at, stored_elements}
+use Rattle.format_model.proofs.AgreeLemmas.{stored_elements-have_their_values}
+use Rattle.format_model.proofs.LookupLemmas.{has_entry-value_among}
+use Rattle.placement.specs.Part.{is_owned, localized}
 
 -- ---- levels
 
@@ -144,6 +154,28 @@ module _ (job : Checked) (entries : Entries) (places : Places) (ranks rank numbe
         ap is_some (moved ∙ (described_parts-are_held t s globals h.order part h.described can.matrix can.suits).found r c r_low c_low)
         ∙ stored_same array.axis ranks ts rank array.rows array.cols row col m h.admitted.side h.admitted.matrix h.placed extent own at part refl r_low c_low s h.admitted.by_row
 
+    stored_there : has_entry_at (stored_elements s globals part) r c ≡ is_stored s m.entries row col
+    stored_there =
+        has_entry-value_among (stored_elements s globals part) r c
+        ∙ stored_same array.axis ranks ts rank array.rows array.cols row col m h.admitted.side h.admitted.matrix h.placed extent own at part refl r_low c_low s h.admitted.by_row
+
+    value_there : All (λ e. e.value < 2 ^ 64) m.entries → is_stored s m.entries row col ≡ true →
+        searched (view_tree cut t) (path_of s array.cols row col) ≡ Some (element array.cols m.entries (row * array.cols + col))
+    value_there small there =
+        moved ∙ (described_parts-are_held t s globals h.order part h.described can.matrix can.suits).found r c r_low c_low
+        ∙ stored_elements-have_their_values s globals part can.matrix (small_kept array.axis ts rank m.entries small) r c r_low c_low
+        ∙ cond-true (has_entry_at (stored_elements s globals part) r c) (Some (element part.cols part.entries (r * part.cols + c))) None (stored_there ∙ there)
+        ∙ ap Some (element_same array.axis ts rank m.rows m.cols part.rows part.cols m.entries row col r c h.admitted.matrix.inside can.matrix.inside (omega (arith, low, sizes.1)) c_low
+        (All-weaker (IsInside m.rows m.cols) (λ e. (is_owned array.axis ts rank e && stands_at r c (localized array.axis ts e)) ≡ stands_at row col e)
+        (entry_told array.axis ranks ts rank m.rows m.cols row col h.admitted.side h.placed extent own) m.entries h.admitted.matrix.inside))
+        ∙ ap (λ n. Some (element n m.entries (row * n + col))) sizes.1
+
+  valued : (row col : ℕ) → row < array.rows → col < array.cols → owner_of_element array.axis ts array.cols (row * array.cols + col) ≡ rank → All (λ e. e.value < 2 ^ 64) m.entries →
+      is_stored s m.entries row col ≡ true → searched (view_tree cut t) (path_of s array.cols row col) ≡ Some (element array.cols m.entries (row * array.cols + col))
+  valued row col high low owner small there =
+      let own = split_owned array.axis ranks ts rank array.rows array.cols row col h.admitted.side h.placed h.extent high low owner in
+      value_there row col high low own (is_at array.axis ts rank array.rows array.cols row col h.admitted.side high low own) small there
+
   stored : (row col : ℕ) → row < array.rows → col < array.cols → owner_of_element array.axis ts array.cols (row * array.cols + col) ≡ rank →
       is_some (searched (view_tree cut t) (path_of s array.cols row col)) ≡ is_stored s m.entries row col
   stored row col high low owner =
@@ -170,3 +202,13 @@ views-of_parts-are_views job entries places ranks rank number view v =
 pub plans-over_views-walk_the_answer : PlansOverViewsWalkTheAnswer
 plans-over_views-walk_the_answer job entries places nest t ranks rank tree plan is views =
     each_plan_walks_the_answer job entries places nest t rank tree plan is (λ r low. views-of_parts-are_views job entries places ranks rank (ref_at t r).array (tree r) (views r low))
+
+pub views-have_the_values : ViewsHaveTheValues
+views-have_the_values job entries places ranks rank number view v small row col high low owner there =
+    let h = v.holds in
+    let array : ArrayDecl = h.array in
+    let es : List Entry = entries_of entries number in
+    ap (λ w. searched w (path_of h.format.shape array.cols row col)) v.is
+    ∙ valued job entries places ranks rank number v.part v.lawful v.reached h row col high low owner (subst (All (λ e. e.value < 2 ^ 64)) h.entries_are small)
+    (sym (ap (λ es. is_stored h.format.shape es row col) h.entries_are) ∙ there)
+    ∙ ap (λ es. Some (element array.cols es (row * array.cols + col))) (sym h.entries_are)

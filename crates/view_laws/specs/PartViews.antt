@@ -1,11 +1,16 @@
 -- What the view of a rank's part has to be to the loops of a job.
-use Rattle.std.specs.Prelude.{◌≡◌, ℕ, ◌<◌, List, [], Some, length, map, slice_get, slice_index_or}
+use Rattle.std.specs.Prelude.{◌≡◌, ℕ, ◌+◌, ◌*◌, ◌^◌, ◌<◌, true, List, [], Some, length, map, slice_get, slice_index_or}
+use Rattle.std.specs.List.{All}
 use Rattle.std.specs.List.Sorted.{IsPermutation}
+use Rattle.bern_base.specs.Matrix.{element}
 use Rattle.bern_base.specs.declared.job.ArrayDecl.{ArrayDecl}
 use Rattle.bern_base.specs.declared.job.Checked.{Checked}
 use Rattle.bern_base.specs.declared.job.FormatDecl.{FormatDecl}
 use Rattle.bern_base.specs.declared.job.Nest.{Nest}
 use Rattle.bern_base.specs.declared.matrix.Matrix.{Matrix}
+use Rattle.format_model.specs.Elements.{path_of}
+use Rattle.format_model.specs.Laws.{searched}
+use Rattle.format_model.specs.Stored.{is_stored}
 use Rattle.format_model.specs.Trees.{Describes, IsTree, Tree}
 use Rattle.formats.specs.Admitted.{IsAdmitted}
 use Rattle.local_views.specs.Views.{IsReached, cut_of, view_tree}
@@ -17,7 +22,7 @@ use Rattle.plan_courses.specs.PlanCourses.{origin}
 use Rattle.term_model.specs.declared.plan.Plan.{Plan}
 use Rattle.term_model.specs.declared.term.Term.{Term}
 use Rattle.term_model.specs.Activity.{Entries, entries_of}
-use Rattle.term_model.specs.Answers.{Places, answer}
+use Rattle.term_model.specs.Answers.{Places, answer, owner_in}
 use Rattle.walks.specs.Courses.{walk}
 
 -- the triples of the place line that deals an array
@@ -57,6 +62,18 @@ abbrev pub ViewsOfPartsAreViews : Type 0
 ViewsOfPartsAreViews =
     (job : Checked) (entries : Entries) (places : Places) (ranks rank number : ℕ) (view : Tree) →
     IsViewOfPart job entries places ranks rank number view → IsView job entries places rank number view
+
+-- and where the array stores an element that the rank owns, the leaf to which searches lead has the element's value, where values fit
+-- 64 bits
+abbrev pub ViewsHaveTheValues : Type 0
+ViewsHaveTheValues =
+    (job : Checked) (entries : Entries) (places : Places) (ranks rank number : ℕ) (view : Tree) →
+    (v : IsViewOfPart job entries places ranks rank number view) → All (λ e. e.value < 2 ^ 64) (entries_of entries number) →
+    (row col : ℕ) → row < v.holds.array.rows → col < v.holds.array.cols →
+    owner_in places (Some v.holds.array) (row * v.holds.array.cols + col) ≡ rank →
+    is_stored v.holds.format.shape (entries_of entries number) row col ≡ true →
+    searched view (path_of v.holds.format.shape v.holds.array.cols row col) ≡
+    Some (element v.holds.array.cols (entries_of entries number) (row * v.holds.array.cols + col))
 
 -- one for each sparse reference of a term
 abbrev pub AreViewsOfParts : Checked → Entries → Places → ℕ → ℕ → Term → (ℕ → Tree) → Type 0

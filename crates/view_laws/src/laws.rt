@@ -10,7 +10,7 @@ ghost use Rattle.local_views.specs.declared.view.LocalView.{LocalView as View};
 ghost use Rattle.plan_courses.specs.JobCourses.{IsView};
 ghost use Rattle.term_model.specs.Activity.{Entries};
 ghost use Rattle.term_model.specs.Answers.{Places};
-ghost use Rattle.view_laws.specs.PartViews.{HoldsPart, PlansOverViewsWalkTheAnswer, ViewsOfPartsAreViews, view_at};
+ghost use Rattle.view_laws.specs.PartViews.{HoldsPart, PlansOverViewsWalkTheAnswer, ViewsHaveTheValues, ViewsOfPartsAreViews, view_at};
 ghost use Rattle.view_laws.specs.SetViews.{HasElements, SetsViewed};
 
 use access_joins::{Access, Cells};
@@ -30,9 +30,11 @@ pub fn a_set_view_describes_the_changed_part<P: Placement>()
 {}
 
 /// The view of the part of a rank, of an array of a job, is what the job's loops ask for: lawful, with the levels of the array's
-/// format, and at each element that the rank owns searches lead to a leaf exactly where the array stores it.
+/// format, and at each element that the rank owns searches lead to a leaf exactly where the array stores it; and that leaf has the
+/// element's value.
 pub fn the_views_of_parts_are_views()
     ensures views { ViewsOfPartsAreViews }
+    ensures values { ViewsHaveTheValues }
     ensures stores { (job : Checked) (entries : Entries) (places : Places) (ranks rank number : ℕ) (s : Store) →
         (h : HoldsPart job entries places ranks rank number (⟦<AnyStore as Access>⟧.tree s)) →
         IsView job entries places rank number (view_at places h.array rank (⟦<AnyStore as Access>⟧.tree s)) }

@@ -6,4 +6,7 @@
 
 mod laws;
 
-pub use laws::{a_set_view_describes_the_changed_part, plans_over_views_walk_the_answer, the_views_of_parts_are_views};
+pub use laws::{
+    a_set_view_describes_the_changed_part, plans_over_views_walk_the_answer,
+    the_views_of_parts_are_views,
+};
