@@ -1,3 +1,4 @@
+pub mod Examples
 pub mod LocalLemmas
 pub mod SetLemmas
 pub mod StoredLemmas
