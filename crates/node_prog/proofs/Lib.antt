@@ -1,0 +1,5 @@
+pub mod DueLemmas
+pub mod HomeLemmas
+pub mod SubscriptLemmas
+pub mod WayLemmas
+pub mod StageLemmas
