@@ -1,5 +1,5 @@
 -- The owner of an index by a place of a list.
-use Rattle.std.proofs.Common.{◌≡◌, ◌∙◌, ℕ, zero, suc, ◌<◌, ◌≤◌, List, [], ◌∷◌, map, length, Option, Some, None, ℤ, pos, false, refl, sym, ap, arith}
+use Rattle.std.proofs.Common.{◌≡◌, ℕ, zero, suc, ◌≤◌, List, [], ◌∷◌, map, length, Some, None, ℤ, pos, false, refl, ap, arith}
 use Rattle.std.specs.Prelude.{int_lt, slice_get, slice_index_or}
 use Rattle.std.proofs.lemmas.Int.{ints}
 use Rattle.bern_base.specs.Affine.{value_at}

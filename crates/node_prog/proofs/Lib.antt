@@ -3,3 +3,4 @@ pub mod HomeLemmas
 pub mod SubscriptLemmas
 pub mod WayLemmas
 pub mod StageLemmas
+pub mod CourseLemmas
