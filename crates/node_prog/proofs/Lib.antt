@@ -4,3 +4,4 @@ pub mod SubscriptLemmas
 pub mod WayLemmas
 pub mod StageLemmas
 pub mod CourseLemmas
+pub mod Examples
