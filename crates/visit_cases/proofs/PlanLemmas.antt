@@ -12,7 +12,7 @@ use Rattle.walks.specs.Courses.{Course, node_of}
 use Rattle.walks.proofs.Points.{among_every, number-same, or_second, same-at}
 use Rattle.walks.proofs.Spans.{between-in_loop}
 use Rattle.visits.specs.Ways.{AreNear, HasSlope, IsWay, quotient, seen, stride_in, zero_hit}
-use Rattle.visit_cases.specs.Plans.{grid_way, pair_way, rows_way}
+use Rattle.visit_cases.specs.Plans.{entries_way, grid_way, pair_way, rows_way}
 
 -- ---- a factor of 1
 
@@ -141,6 +141,68 @@ rows_is_way t is two = record {
   };
   near = rows_near;
   slopes = rows_slopes;
+  some = omega arith;
+}
+
+-- ---- the entries, row by row
+
+abbrev pub entries_course : Tree → Course
+entries_course t = seen entries_way (t ∷ [])
+
+entries_solver : (t : Tree) (v : ℕ) → v < 4 → IsSolver (entries_course t) 0 v v
+entries_solver t v low = record {
+  sound = (λ p index x long is. let whole = solved p v index x (pos 0) (omega (arith, long, low)) is in omega (arith, ints, whole));
+  complete = (λ p index x long inside is. solves p v index x (pos 0) (omega (arith, long, low)) (omega (arith, ints, is)));
+}
+
+entries_steps : (t : Tree) → depth_of t ≡ 2 → (d : ℕ) → d < 2 → IsStep (entries_course t) (known_at (entries_course t) (2 ∷ 3 ∷ []) d) (stride_at (entries_course t) d)
+entries_steps t two zero low = record {
+  variable = omega arith;
+  free = refl;
+  next = record { reference = omega arith; located = refl; there = omega (arith, two) };
+  depends = (λ x y agree. same-at (0 ∷ 2 ∷ 3 ∷ []) x y agree 0 refl);
+  solver = entries_solver t 0 (omega arith);
+}
+entries_steps t two (suc zero) low = record {
+  variable = omega arith;
+  free = refl;
+  next = record { reference = omega arith; located = refl; there = omega (arith, two) };
+  depends = (λ x y agree. same-at (1 ∷ 0 ∷ 2 ∷ 3 ∷ []) x y agree 1 refl);
+  solver = entries_solver t 1 (omega arith);
+}
+entries_steps t two (suc (suc d)) low = absurd (omega (arith, low))
+
+entries_tree : (t : Tree) → IsTree t → (r : ℕ) → r < 1 → IsTree ((entries_course t).tree r)
+entries_tree t is r low = is
+
+entries_located : (t : Tree) → depth_of t ≡ 2 → (r : ℕ) → r < 1 → (known_at (entries_course t) (2 ∷ 3 ∷ []) 2).located r ≡ depth_of ((entries_course t).tree r)
+entries_located t two zero low = sym two
+entries_located t two (suc r) low = absurd (omega (arith, low))
+
+entries_slopes : (d : ℕ) → d < 2 → HasSlope entries_way (stride_in entries_way d)
+entries_slopes zero low = λ is. absurd cc
+entries_slopes (suc zero) low = λ is. absurd cc
+entries_slopes (suc (suc d)) low = absurd (omega (arith, low))
+
+pub entries_is_way : (t : Tree) → IsTree t → depth_of t ≡ 2 → IsWay entries_way (t ∷ [])
+entries_is_way t is two = record {
+  course = record {
+    references = omega arith;
+    trees = entries_tree t is;
+    starts = record {
+      point = refl;
+      leaves = refl;
+      idle = unused_after (entries_course t) (2 ∷ 3 ∷ []) refl refl refl refl refl (λ among. absurd cc) refl none_past;
+      roots = (λ r low. all_roots r (omega (arith, low)));
+    };
+    settled = record { tests = (λ x y agree. refl); ready = tt };
+    steps = entries_steps t two;
+    due = (λ d low. record { tests = (λ x y agree. refl); ready = tt });
+    done = record { bound = rows_bound; located = entries_located t two };
+    few = omega arith;
+  };
+  near = rows_near;
+  slopes = entries_slopes;
   some = omega arith;
 }
 

@@ -29,6 +29,24 @@ rows_way = record {
   shift = λ left left_level right right_level v p. pos 0;
 }
 
+-- A[i,j] in compressed rows: its rows, and the columns of each
+abbrev pub entries_way : Way
+entries_way = record {
+  references = 1;
+  strides = Drive 0 0 0 ∷ Drive 0 1 1 ∷ [];
+  unused = 2 ∷ 3 ∷ [];
+  low = λ v. pos 0;
+  high = square_ends;
+  test = λ d p. true;
+  searches = λ d. [];
+  view = λ r. 0;
+  index = λ r level p. number_of p level;
+  slope = λ r level v. pos 1;
+  base = λ r level v p. pos 0;
+  part = λ r v p e. None;
+  shift = λ left left_level right right_level v p. pos 0;
+}
+
 -- the loop i 0..6
 abbrev pub line_ends : ℕ → ℤ
 line_ends v = if v == 0 then pos 6 else pos 1

@@ -2,14 +2,17 @@ ghost use Rattle.std.specs.Prelude.{◌≡◌, ◌<◌, true, IfOk, length, map}
 ghost use Rattle.bern_base.specs.Matrix.{IsMatrix};
 ghost use Rattle.format_model.specs.Trees.{depth_of, ordered_at};
 ghost use Rattle.visits.specs.Ways.{IsWay};
-ghost use Rattle.visit_cases.specs.Plans.{grid_way, pair_way, rows_way};
+ghost use Rattle.visit_cases.specs.Plans.{entries_way, grid_way, pair_way, rows_way};
 
+use crate::entries::EntriesRoute;
 use crate::grid::GridRoute;
 use crate::pair::PairRoute;
+use crate::probe::Probe;
 use crate::rows::RowsRoute;
 use access_joins::Access;
 use bern_base::{Axis, Entry, Items, Matrix, NoMemory, Steps, Val, is_matrix};
 use std::alloc::Global;
+use std::cell::Cell;
 use std::marker::Brand;
 use std::sync::ledger::{Blank, Ledger};
 use std::test::Fail;
@@ -47,6 +50,18 @@ fn matrix_of(alloc: Global, rows: u32, cols: u32, entries: &[Entry]) -> Result<M
 fn one_view<V: Access + Drop>(alloc: Global, store: V) -> Result<Items<V>, NoMemory>
     requires { depth_of (V.tree store) ≡ 2 }
     ensures { IfOk result (λ views. IsWay rows_way (map V.tree views)) }
+{
+    let mut views = Items::new(alloc);
+    match views.push(store) {
+        Ok(()) => Ok(views),
+        Err(error) => Err(error),
+    }
+}
+
+/// The view of a store with two levels, both driven.
+fn entries_view<V: Access + Drop>(alloc: Global, store: V) -> Result<Items<V>, NoMemory>
+    requires { depth_of (V.tree store) ≡ 2 }
+    ensures { IfOk result (λ views. IsWay entries_way (map V.tree views)) }
 {
     let mut views = Items::new(alloc);
     match views.push(store) {
@@ -211,5 +226,59 @@ fn a_flat_step_gives_both_variables_of_an_index(rt: HostRuntime) -> Result<(), F
             Blank::new(1)
         )?
     );
+    Ok(())
+}
+
+/// The entries (0,0), (0,2) and (2,1) in compressed rows, in a store that counts calls.
+fn probed(alloc: Global) -> Result<Items<Probe<PackedStore>>, Fail>
+    ensures { IfOk result (λ views. IsWay entries_way (map ⟦<Probe<PackedStore> as Access>⟧.tree views)) }
+{
+    let matrix = matrix_of(alloc, 3, 3, &[entry(0, 0), entry(0, 2), entry(2, 1)])?;
+    let store = PackedStore::build(alloc, &matrix, Axis::Row, true, false)?;
+    let calls = Cell::new(0);
+    Ok(entries_view(alloc, Probe { store, calls })?)
+}
+
+/// How often a whole visit reads a child; none where it gives other points than those of the three entries.
+fn reads<L: Ledger>(
+    alloc: Global,
+    views: &Items<Probe<PackedStore>>,
+    blank: Blank,
+) -> Result<Option<u32>, NoMemory>
+    requires way { IsWay entries_way (map ⟦<Probe<PackedStore> as Access>⟧.tree views.now) }
+    requires name { blank.name ≡ L.name }
+    requires parts { blank.parts ≡ L.parts }
+    requires some { 0 < blank.parts }
+{
+    let mut steps: Steps<L> = Steps::start(blank);
+    let points = all_points(alloc, &EntriesRoute, views, &mut steps)?;
+    let expected = [
+        Hit {
+            point: [0, 0, 0, 0],
+            leaves: [0, 0, 0, 0],
+        },
+        Hit {
+            point: [0, 2, 0, 0],
+            leaves: [1, 0, 0, 0],
+        },
+        Hit {
+            point: [2, 1, 0, 0],
+            leaves: [2, 0, 0, 0],
+        },
+    ];
+    if points.as_slice() != expected.as_slice() {
+        return Ok(None);
+    }
+    match views.get(0) {
+        Some(view) => Ok(Some(view.calls.get())),
+        None => Ok(None),
+    }
+}
+
+#[test]
+fn a_visit_of_three_entries_reads_six_children(rt: HostRuntime) -> Result<(), Fail> {
+    let alloc = rt.alloc();
+    let views = probed(alloc)?;
+    assert_eq!(&rt; reads::<Brand>(alloc, &views, Blank::new(1))?, Some(6));
     Ok(())
 }
