@@ -15,6 +15,7 @@ use std::marker::Brand;
 use std::sync::ledger::Blank;
 use std::test::Fail;
 use store_cases::{Path, reads_as};
+use view_laws::a_set_view_describes_the_changed_part;
 
 /// A matrix of three rows and three columns with the elements
 /// `. . 3 / 4 . 6 / . 5 .`
@@ -111,6 +112,7 @@ fn sets(
     requires within { element < 6 }
     requires cells { (k : ℕ) → k < 6 → HasElement (⟦<LocalView<AnyStore, Cyclic> as Cells>⟧.grid view) k }
 {
+    a_set_view_describes_the_changed_part::<Cyclic>();
     let before = cells(alloc, &view, 6)?;
     view.set(element, Val::new(value));
     let there = reads_as::<LocalView<AnyStore, Cyclic>, Brand>(

@@ -14,8 +14,8 @@ viewed cut g = moved_grid (global_row cut) (global_col cut) g
 
 -- the store within a view had the elements of a part; one element of the view was set; and another part of the same sizes has the
 -- values of the first one but for that element
-pub record SetsViewed (within before after : Option Grid) (single : Bool) (outer : Axis) (old new : Matrix) (element value : ℕ) : Type 0 where
-  pub had : within ≡ Some (grid_of single outer old)
+pub record SetsViewed (kept before after : Option Grid) (single : Bool) (outer : Axis) (old new : Matrix) (element value : ℕ) : Type 0 where
+  pub had : kept ≡ Some (grid_of single outer old)
   pub set : after ≡ with_element before element value
   pub rows : new.rows ≡ old.rows
   pub cols : new.cols ≡ old.cols
@@ -23,7 +23,7 @@ pub record SetsViewed (within before after : Option Grid) (single : Bool) (outer
 
 -- the store within a view, with this tree and these elements, has those of a part and describes it; and the view has them at their
 -- rows and columns of the array
-pub record HasElements (cut : Cut) (tree : Tree) (within seen : Option Grid) (single : Bool) (outer : Axis) (part : Matrix) : Type 0 where
-  pub store : within ≡ Some (grid_of single outer part)
+pub record HasElements (cut : Cut) (tree : Tree) (kept seen : Option Grid) (single : Bool) (outer : Axis) (part : Matrix) : Type 0 where
+  pub store : kept ≡ Some (grid_of single outer part)
   pub describes : (globals order : List ℕ) → Describes tree (dense_shape single outer) globals order part
   pub view : seen ≡ Some (viewed cut (grid_of single outer part))
