@@ -112,7 +112,6 @@ fn sets(
     requires within { element < 6 }
     requires cells { (k : ℕ) → k < 6 → HasElement (⟦<LocalView<AnyStore, Cyclic> as Cells>⟧.grid view) k }
 {
-    a_set_view_describes_the_changed_part::<Cyclic>();
     let before = cells(alloc, &view, 6)?;
     view.set(element, Val::new(value));
     let there = reads_as::<LocalView<AnyStore, Cyclic>, Brand>(
@@ -201,6 +200,7 @@ fn by_columns_an_element_is_read_and_set_by_its_number_in_the_part(
         ],
         values: &[0, 3, 4, 8, 0, 0],
     };
+    a_set_view_describes_the_changed_part::<Cyclic>();
     let view = view_of(rt.alloc(), Axis::Col, Axis::Col)?;
     assert!(&rt; sets(rt.alloc(), view, 3, 8, &expected)?);
     Ok(())
