@@ -5,7 +5,7 @@
 #
 # PROGRAM is a path, and bin/bernoulli of this repository where it is left out. An example is a folder with `job.txt`;
 # `expected` is printed by a run on any number of ranks, or on the one in `ranks` where a place is listed for that many, and
-# `expected.replay`, where it stands, by a replay on 3 ranks.
+# `expected.replay`, where it stands, by a replay on 3 ranks, and `expected.plan` by `plan`.
 # A folder of `refused/` has a job that is refused, or whose files are: `expected` is the line on the errors, for a run on
 # 2 ranks or for the words in `words`. Each line of `refused/words` is a rule and words that it refuses.
 
@@ -51,6 +51,9 @@ for job in "$here"/*/job.txt; do
     done
     if [ -f expected.replay ]; then
         expect 0 expected.replay "$printed/nothing" replay job.txt 3 7
+    fi
+    if [ -f expected.plan ]; then
+        expect 0 expected.plan "$printed/nothing" plan job.txt
     fi
     passed=$((passed + 1))
 done

@@ -11,20 +11,25 @@ use Rattle.bern_ports.specs.Files.{Files, bytes_of}
 use Rattle.job_accept.proofs.AnswerLemmas.{one_bytes_answer}
 use Rattle.job_accept.specs.Front.{AcceptsBytes, RefusesAt, RefusesBytes}
 use Rattle.job_files.specs.Answers.{IsFaultAt, IsNoFault, IsRefusalOf, ReadsWhole}
-use Rattle.job_files.specs.FileOrder.{Loads}
-use Rattle.job_files.specs.Uses.{entries_in}
+use Rattle.job_files.specs.FileOrder.{Loads, Refused, Stop, stop_of_files}
+use Rattle.job_files.specs.Uses.{entries_in, matrices_from, unplaced}
 use Rattle.job_files.specs.declared.load_error.LoadError.{LoadError}
 use Rattle.job_files.specs.declared.load_error.LoadError.TheVariants as e
+use Rattle.job_plans.proofs.OnceLemmas.{least_once, least_there}
+use Rattle.job_plans.specs.Least.{measured}
 use Rattle.job_rules.specs.declared.job.CheckError.{CheckError}
 use Rattle.job_rules.specs.declared.job.CheckError.TheVariants as c
 use Rattle.job_runs.proofs.DueLemmas.{replay_due, run_due}
 use Rattle.job_runs.specs.Texts.{replay_text, run_text, text_of_replay, text_of_run}
+use Rattle.join_plan.specs.PlanText.{plan_text}
 use Rattle.rank_product.proofs.ShapeLemmas.{shape_named}
 use Rattle.rank_product.specs.Shapes.{IsProduct}
 use Rattle.rank_product.specs.declared.shape.ProductShape.{ProductShape}
 use Rattle.bern_top.specs.Answers.{Agrees, AnswersBytes, AnswersJob, AnswersRequest, AnswersWords, EndsOnly, IsJobRefusal, IsWordsRefusal}
-use Rattle.bern_top.specs.Endings.{Absent, Done, Ending, Ends, IsNoProduct, IsReached, ReachesFile, ReachesInBytes, ReachesInJob, Refuses, Replays, Runs, RunsBytes, RunsJob, ending_of, replay_ending, run_ending}
-use Rattle.bern_top.specs.Requests.{HasRequest, IsRequest, RefusesBy, RefusesWords, request}
+use Rattle.bern_top.specs.Endings.{Absent, Done, Ending, Ends, IsNoProduct, IsReached, IsTextOfPlans, PlansFrom, ReachesFile, ReachesInBytes, ReachesInJob, Refuses, Replays, Runs, RunsBytes, RunsJob, ending_at, ending_of, replay_ending, run_ending}
+use Rattle.bern_top.specs.Requests.{Asks, HasRequest, IsRequest, RefusesBy, RefusesWords, request}
+use Rattle.bern_top.specs.declared.requests.Command.{Command}
+use Rattle.bern_top.specs.declared.requests.Command.TheVariants.{Plan, Replay, Run}
 use Rattle.bern_top.specs.declared.requests.Request.{Request}
 use Rattle.bern_top.specs.declared.requests.WordsError.{WordsError}
 use Rattle.bern_top.specs.declared.requests.WordsError.TheVariants as w
@@ -119,42 +124,78 @@ bytes_accepted files r bytes job result accepted agrees =
     agrees)
 
 -- a run of an accepted job, where its files stop it and where they do not
-pub run_stopped : (files : Files) (name : List ℕ) (ranks : ℕ) (job : Checked) (fault : LoadError) → Loads files name ranks job (Err fault) → AnswersJob files (request name ranks None) job (Err fault)
-run_stopped files name ranks job (e.Refused x) loads = known_end (run_ending files (request name ranks None) job) (Refuses x) (ap (ending_of (run_text (entries_in files) job)) loads)
-run_stopped files name ranks job (e.ReadFault file) loads = (tt, loads)
+pub run_stopped : (files : Files) (name : List ℕ) (ranks : ℕ) (job : Checked) (fault : LoadError) → Loads files name ranks job (Err fault) → AnswersJob files (request name (Run ranks)) job (Err fault)
+run_stopped files name ranks job (e.Refused x) loads = known_end (run_ending files name ranks job) (Refuses x) (ap (ending_of (run_text (entries_in files) job)) loads)
+run_stopped files name ranks job (e.ReadFault file) loads = loads
 run_stopped files name ranks job e.NoMemory loads = tt
 
 pub run_done : (files : Files) (name : List ℕ) (ranks : ℕ) (job : Checked) (ms : List Matrix) (text : List ℕ) → Loads files name ranks job (Ok ms) → text ≡ text_of_run job ms →
-    AnswersJob files (request name ranks None) job (Ok text)
+    AnswersJob files (request name (Run ranks)) job (Ok text)
 run_done files name ranks job ms text loads is =
-    known_end (run_ending files (request name ranks None) job) (Done text) (ap (ending_of (run_text (entries_in files) job)) loads.0 ∙ ap (λ t. Done t) (sym (run_due (entries_in files) job ms text loads.1 is)))
+    known_end (run_ending files name ranks job) (Done text) (ap (ending_of (run_text (entries_in files) job)) loads.0 ∙ ap (λ t. Done t) (sym (run_due (entries_in files) job ms text loads.1 is)))
+
+-- the plans of an accepted job, where its files stop them and where they do not
+pub plan_stopped : (files : Files) (name : List ℕ) (job : Checked) (fault : LoadError) → Loads files name 1 (unplaced job) (Err fault) → AnswersJob files (request name Plan) job (Err fault)
+plan_stopped files name job (e.Refused x) loads = subst (λ stop. EndsOnly (PlansFrom stop files job) (Refuses x)) (sym loads) (known_end (ending_at (Refused x)) (Refuses x) refl)
+plan_stopped files name job (e.ReadFault file) loads = loads
+plan_stopped files name job e.NoMemory loads = tt
+
+-- there is one text of the plans of least cost
+one_text : (job : Checked) (ms : List Matrix) (a b : List ℕ) → IsTextOfPlans job ms a → IsTextOfPlans job ms b → a ≡ b
+one_text job ms a b first second = first.2 ∙ ap (plan_text job) (least_once job (measured job ms) first.0 second.0 first.1 second.1) ∙ sym second.2
+
+only_plans : (files : Files) (job : Checked) (text : List ℕ) → IsTextOfPlans job (matrices_from (entries_in files) job.arrays) text → EndsOnly (PlansFrom None files job) (Done text)
+only_plans files job text is = (
+  (text, is, refl),
+  λ other ends. ends.2 ∙ ap (λ t. Done t) (one_text job (matrices_from (entries_in files) job.arrays) ends.0 text ends.1 is),
+)
+
+pub plan_done : (files : Files) (name : List ℕ) (job : Checked) (ms : List Matrix) (text : List ℕ) → Loads files name 1 (unplaced job) (Ok ms) → IsTextOfPlans job ms text → AnswersJob files (request name Plan) job (Ok text)
+plan_done files name job ms text loads is =
+    subst (λ stop. EndsOnly (PlansFrom stop files job) (Done text)) (sym loads.0) (only_plans files job text (subst (λ all. IsTextOfPlans job all text) loads.1 is))
+
+-- where nothing stops it, a text of plans is due
+plans_end : (files : Files) (job : Checked) (stop : Option Stop) → stop ≡ None → (text : List ℕ) × PlansFrom stop files job (Done text)
+plans_end files job stop none =
+    let ms : List Matrix = matrices_from (entries_in files) job.arrays in
+    let (plans, least) = least_there job (measured job ms) in
+    (plan_text job plans, subst (λ s. PlansFrom s files job (Done (plan_text job plans))) (sym none) (plan_text job plans, (plans, least, refl), refl))
+
+pub plans_due : (files : Files) (words : List (List ℕ)) (name bytes : List ℕ) (job : Checked) → Asks words name Plan → bytes_of files name ≡ Some bytes → AcceptsBytes bytes job → stop_of_files files name 1 (unplaced job) ≡ None →
+    (text : List ℕ) × Ends files words (Done text)
+plans_due files words name bytes job asks there accepted none =
+    let r : Request = request name Plan in
+    let (text, ends) = plans_end files job (stop_of_files files name 1 (unplaced job)) none in
+    (text, inr (r, asks, subst (λ o. after o name (RunsBytes files r) (Done text)) (sym there) (inl (job, accepted, ends))))
 
 -- a job is one product at most
 one_product : (job : Checked) (p q : ProductShape) → IsProduct job p → IsProduct job q → p ≡ q
 one_product job p q first second = let same : Some p ≡ Some q = sym (shape_named job p first) ∙ shape_named job q second in cc
 
 -- a replay of a job that is this product
-replays_as : (files : Files) (r : Request) (job : Checked) (product : ProductShape) → IsProduct job product → (x : Ending) → Replays files r job x → x ≡ replay_ending files r job product
-replays_as files r job product is x (inl runs) = runs.2 ∙ ap (λ p. replay_ending files r job p) (one_product job runs.0 product runs.1 is)
-replays_as files r job product is x (inr runs) = absurd (runs.0 product is)
+replays_as : (files : Files) (name : List ℕ) (ranks : ℕ) (job : Checked) (product : ProductShape) → IsProduct job product → (x : Ending) → Replays files name ranks job x → x ≡ replay_ending files name ranks job product
+replays_as files name ranks job product is x (inl runs) = runs.2 ∙ ap (λ p. replay_ending files name ranks job p) (one_product job runs.0 product runs.1 is)
+replays_as files name ranks job product is x (inr runs) = absurd (runs.0 product is)
 
-replay_end : (files : Files) (r : Request) (job : Checked) (product : ProductShape) (end : Ending) → IsProduct job product → replay_ending files r job product ≡ end → EndsOnly (Replays files r job) end
-replay_end files r job product end is same = ends_as (λ x. x ≡ replay_ending files r job product) (Replays files r job) end (λ x known. inl (product, is, known)) (replays_as files r job product is) (known_end (replay_ending files r job product) end same)
+replay_end : (files : Files) (name : List ℕ) (ranks : ℕ) (job : Checked) (product : ProductShape) (end : Ending) → IsProduct job product → replay_ending files name ranks job product ≡ end → EndsOnly (Replays files name ranks job) end
+replay_end files name ranks job product end is same =
+    ends_as (λ x. x ≡ replay_ending files name ranks job product) (Replays files name ranks job) end (λ x known. inl (product, is, known)) (replays_as files name ranks job product is)
+    (known_end (replay_ending files name ranks job product) end same)
 
 pub replay_stopped : (files : Files) (name : List ℕ) (ranks seed : ℕ) (job : Checked) (product : ProductShape) (fault : LoadError) → IsProduct job product → Loads files name ranks job (Err fault) →
-    AnswersJob files (request name ranks (Some seed)) job (Err fault)
-replay_stopped files name ranks seed job product (e.Refused x) is loads = replay_end files (request name ranks (Some seed)) job product (Refuses x) is (ap (ending_of (replay_text (entries_in files) ranks job product)) loads)
+    AnswersJob files (request name (Replay ranks seed)) job (Err fault)
+replay_stopped files name ranks seed job product (e.Refused x) is loads = replay_end files name ranks job product (Refuses x) is (ap (ending_of (replay_text (entries_in files) ranks job product)) loads)
 replay_stopped files name ranks seed job product (e.ReadFault file) is loads = ((product, is), loads)
 replay_stopped files name ranks seed job product e.NoMemory is loads = tt
 
 pub replay_done : (files : Files) (name : List ℕ) (ranks seed : ℕ) (job : Checked) (product : ProductShape) (ms : List Matrix) (text : List ℕ) → IsProduct job product → Loads files name ranks job (Ok ms) →
-    text ≡ text_of_replay ranks job product ms → AnswersJob files (request name ranks (Some seed)) job (Ok text)
+    text ≡ text_of_replay ranks job product ms → AnswersJob files (request name (Replay ranks seed)) job (Ok text)
 replay_done files name ranks seed job product ms text is loads text_is =
-    replay_end files (request name ranks (Some seed)) job product (Done text) is
+    replay_end files name ranks job product (Done text) is
     (ap (ending_of (replay_text (entries_in files) ranks job product)) loads.0 ∙ ap (λ t. Done t) (sym (replay_due (entries_in files) ranks job product ms text loads.1 text_is)))
 
 -- another job is not replayed
-pub not_replayed : (files : Files) (name : List ℕ) (ranks seed : ℕ) (job : Checked) (fault : LoadError) → IsNoProduct job → IsRefusalOf (File name 0 U2) fault → AnswersJob files (request name ranks (Some seed)) job (Err fault)
+pub not_replayed : (files : Files) (name : List ℕ) (ranks seed : ℕ) (job : Checked) (fault : LoadError) → IsNoProduct job → IsRefusalOf (File name 0 U2) fault → AnswersJob files (request name (Replay ranks seed)) job (Err fault)
 not_replayed files name ranks seed job (e.Refused x) none is = (
   inr (none, ap (λ t. Refuses t) is),
   λ other. elim [
@@ -170,14 +211,14 @@ words_as : (files : Files) (words : List (List ℕ)) (r : Request) → IsRequest
 words_as files words r is x (inl broken) = absurd (request_fine words r broken.0 is broken.1)
 words_as files words r is x (inr runs) = subst (λ s. Runs files s x) (same_request words runs.0 r runs.1 is) runs.2
 
-with_seed : (r : Request) (seed : Option ℕ) → r.seed ≡ seed → request r.job r.ranks seed ≡ r
-with_seed r seed is = ap (λ s. record { job = r.job; ranks = r.ranks; seed = s }) (sym is)
+with_command : (r : Request) (command : Command) → r.command ≡ command → request r.job command ≡ r
+with_command r command is = ap (λ c. request r.job c) (sym is)
 
-pub words_answered : (files : Files) (words : List (List ℕ)) (r : Request) (seed : Option ℕ) (result : Result (List ℕ) LoadError) → IsRequest words r → r.seed ≡ seed → AnswersRequest files (request r.job r.ranks seed) result → AnswersWords files words result
-words_answered files words r seed result is seeded agrees =
+pub words_answered : (files : Files) (words : List (List ℕ)) (r : Request) (command : Command) (result : Result (List ℕ) LoadError) → IsRequest words r → r.command ≡ command → AnswersRequest files (request r.job command) result → AnswersWords files words result
+words_answered files words r command result is same agrees =
     reaches_more (Ends files words) (ReachesFile files r) (IsReached files words) result (λ n reaches. (r, is, reaches))
     (agrees_as (Runs files r) (Ends files words) (ReachesFile files r) result (λ x runs. inr (r, is, runs)) (words_as files words r is)
-    (subst (λ q. AnswersRequest files q result) (with_seed r seed seeded) agrees))
+    (subst (λ q. AnswersRequest files q result) (with_command r command same) agrees))
 
 -- words that break a rule end with it
 words_refused : (files : Files) (words : List (List ℕ)) (rule : Rule) → RefusesWords words rule → AnswersWords files words (Err (e.Refused (Words rule)))

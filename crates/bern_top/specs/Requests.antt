@@ -4,15 +4,21 @@ use Rattle.std.specs.Str.{bytes_eq}
 use Rattle.bern_base.specs.declared.limits.TheConstants.{MOST_RANKS}
 use Rattle.bern_base.specs.declared.refusal.Rule.{Rule}
 use Rattle.bern_base.specs.declared.refusal.Rule.TheVariants.{C1, C2, C3, C4, U1}
+use Rattle.bern_top.specs.declared.requests.Command.{Command}
+use Rattle.bern_top.specs.declared.requests.Command.TheVariants.{Plan, Replay, Run}
 use Rattle.bern_top.specs.declared.requests.CommandName.{CommandName}
 use Rattle.bern_top.specs.declared.requests.CommandName.TheVariants as name
 use Rattle.bern_top.specs.declared.requests.Request.{Request}
 use Rattle.bern_top.specs.declared.requests.WordsError.{WordsError}
 use Rattle.bern_top.specs.declared.requests.WordsError.TheVariants as e
 
--- the run of a job on so many ranks; a replay has a seed, and its events are told after the arrays
-abbrev pub request : List ℕ → ℕ → Option ℕ → Request
-request job ranks seed = record { job = job; ranks = ranks; seed = seed }
+abbrev pub request : List ℕ → Command → Request
+request job command = record { job = job; command = command }
+
+-- a run on so many ranks, or with a seed a replay
+abbrev pub running : ℕ → Option ℕ → Command
+running ranks None = Run ranks
+running ranks (Some seed) = Replay ranks seed
 
 -- RANKS is 1 to 64, in decimal digits without a sign or a leading zero
 abbrev pub IsRanks : List ℕ → ℕ → Type 0
@@ -23,22 +29,32 @@ abbrev pub IsSeed : List ℕ → ℕ → Type 0
 IsSeed word n = (n < 2 ^ 64) × (word ≡ decimal n)
 
 -- `run JOB RANKS`
-pub record IsRun (words : List (List ℕ)) (r : Request) : Type 0 where
-  pub some : 1 ≤ r.ranks
-  pub most : r.ranks ≤ MOST_RANKS
-  pub words_are : words ≡ codes "run" ∷ r.job ∷ decimal r.ranks ∷ []
-  pub plain : r.seed ≡ None
+pub record IsRun (words : List (List ℕ)) (job : List ℕ) (ranks : ℕ) : Type 0 where
+  pub some : 1 ≤ ranks
+  pub most : ranks ≤ MOST_RANKS
+  pub words_are : words ≡ codes "run" ∷ job ∷ decimal ranks ∷ []
 
 -- `replay JOB RANKS SEED`
-pub record IsReplay (words : List (List ℕ)) (seed : ℕ) (r : Request) : Type 0 where
-  pub some : 1 ≤ r.ranks
-  pub most : r.ranks ≤ MOST_RANKS
+pub record IsReplay (words : List (List ℕ)) (job : List ℕ) (ranks seed : ℕ) : Type 0 where
+  pub some : 1 ≤ ranks
+  pub most : ranks ≤ MOST_RANKS
   pub fits : seed < 2 ^ 64
-  pub words_are : words ≡ codes "replay" ∷ r.job ∷ decimal r.ranks ∷ decimal seed ∷ []
-  pub seeded : r.seed ≡ Some seed
+  pub words_are : words ≡ codes "replay" ∷ job ∷ decimal ranks ∷ decimal seed ∷ []
+
+-- these words ask for a command over a job: `plan JOB` beside those two
+abbrev pub Asks : List (List ℕ) → List ℕ → Command → Type 0
+Asks words job (Run ranks) = IsRun words job ranks
+Asks words job Plan = words ≡ codes "plan" ∷ job ∷ []
+Asks words job (Replay ranks seed) = IsReplay words job ranks seed
 
 abbrev pub IsRequest : List (List ℕ) → Request → Type 0
-IsRequest words r = IsRun words r ⊎ ((seed : ℕ) × IsReplay words seed r)
+IsRequest words r = Asks words r.job r.command
+
+-- as many ranks as a command may have
+abbrev pub HasRanks : Command → Type 0
+HasRanks (Run ranks) = (1 ≤ ranks) × (ranks ≤ MOST_RANKS)
+HasRanks Plan = ⊤
+HasRanks (Replay ranks seed) = (1 ≤ ranks) × (ranks ≤ MOST_RANKS)
 
 -- the six names of commands
 abbrev pub name_of : List ℕ → Option CommandName
@@ -84,7 +100,7 @@ RefusesOnRanks words rule = RefusesCount 3 words (RefusesRanks (word_at 2 words)
 
 -- `plan JOB`
 abbrev pub RefusesPlan : List (List ℕ) → Rule → Type 0
-RefusesPlan words rule = RefusesCount 2 words (IsUnbuilt rule) rule
+RefusesPlan words rule = RefusesCount 2 words ⊥ rule
 
 -- `exercise SEED RANKS`
 abbrev pub RefusesExercise : List (List ℕ) → Rule → Type 0

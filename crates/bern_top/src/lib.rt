@@ -2,6 +2,7 @@
 #![tactic(auto)]
 
 mod calls;
+mod laws;
 mod lines;
 mod numerals;
 mod requests;
@@ -9,6 +10,7 @@ mod texts;
 mod top;
 mod writing;
 
-pub use calls::{replay_call, run_call};
+pub use calls::{plan_call, replay_call, run_call};
 pub use job_files::LoadError;
+pub use laws::plans_are_due;
 pub use top::{bernoulli, want_of_memory};

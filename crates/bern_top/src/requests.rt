@@ -1,20 +1,28 @@
-ghost use Rattle.std.specs.Prelude.{◌≡◌, ◌∷◌, [], ◌^◌, ◌<◌, ◌≤◌, ℕ, Some, None, decimal, map, string_bytes, IfSome, IsNone, IfOk, IfErr};
-ghost use Rattle.bern_top.specs.Requests.{IsRanks, IsSeed, IsRun, IsReplay, IsRequest, RefusesBy, RefusesRun, RefusesReplay, RefusesOnRanks, RefusesPlan, RefusesExercise, RefusesWords, GivesRequest, HasRequest, request, name_of, first_name};
+ghost use Rattle.std.specs.Prelude.{◌≡◌, ℕ, Some, map, string_bytes, IfSome, IsNone, IfOk, IfErr};
+ghost use Rattle.bern_top.specs.Requests.{IsRanks, IsSeed, IsRequest, RefusesBy, RefusesRun, RefusesReplay, RefusesOnRanks, RefusesPlan, RefusesExercise, RefusesWords, GivesRequest, HasRequest, request, name_of, first_name};
 
 use crate::numerals::numeral;
 use bern_base::{MOST_RANKS, Rule, Text};
 use std::alloc::Global;
 use thiserror::Error;
 
-/// What the words of the command line ask for: the run or the replay of a job.
+/// What the words of the command line ask for: a command over a job.
 #[derive(Debug, Drop)]
 pub struct Request {
     /// The name of the job's file.
     pub job: Text,
-    /// How many ranks run it, 1 to 64.
-    pub ranks: u32,
-    /// What chooses the order of the events of a replay; a run has none.
-    pub seed: Option<u64>,
+    pub command: Command,
+}
+
+/// What is done with a job.
+#[derive(Clone, Copy, Debug)]
+pub enum Command {
+    /// It is run on so many ranks, 1 to 64.
+    Run { ranks: u32 },
+    /// Its plans are printed.
+    Plan,
+    /// It is run on so many ranks in an order of events that the seed chooses.
+    Replay { ranks: u32, seed: u64 },
 }
 
 /// Why words give no request.
@@ -46,24 +54,19 @@ pub(crate) fn request_of(alloc: Global, words: &[String]) -> Result<Request, Wor
         None => Err(WordsError::Refused(Rule::C1)),
         Some(CommandName::Run) => run_of(alloc, words),
         Some(CommandName::Report) => Err(WordsError::Refused(unbuilt_on_ranks(words))),
-        Some(CommandName::Plan) => Err(WordsError::Refused(unbuilt_plan(words))),
+        Some(CommandName::Plan) => plan_of(alloc, words),
         Some(CommandName::Sets) => Err(WordsError::Refused(unbuilt_on_ranks(words))),
         Some(CommandName::Replay) => replay_of(alloc, words),
         Some(CommandName::Exercise) => Err(WordsError::Refused(unbuilt_exercise(words))),
     }
 }
 
-/// The request with this word as the job.
-fn request_for(
-    alloc: Global,
-    job: &String,
-    ranks: u32,
-    seed: Option<u64>,
-) -> Result<Request, WordsError>
-    ensures { GivesRequest (request (string_bytes job.now) ranks seed) result }
+/// The request for a command over the job of this name.
+fn request_for(alloc: Global, job: &String, command: Command) -> Result<Request, WordsError>
+    ensures { GivesRequest (request (string_bytes job.now) command) result }
 {
     match Text::from_bytes(alloc, job.as_bytes()) {
-        Ok(job) => Ok(Request { job, ranks, seed }),
+        Ok(job) => Ok(Request { job, command }),
         Err(_) => Err(WordsError::NoMemory),
     }
 }
@@ -118,14 +121,26 @@ fn seed_of(word: &[u8]) -> Option<u64>
 /// `run JOB RANKS`
 fn run_of(alloc: Global, words: &[String]) -> Result<Request, WordsError>
     requires { first_name (map string_bytes words.now) ≡ Some CommandName.Run }
-    ensures found { IfOk result (IsRun (map string_bytes words.now)) }
+    ensures found { IfOk result (IsRequest (map string_bytes words.now)) }
     ensures refused { IfErr result (RefusesBy (RefusesRun (map string_bytes words.now)) (HasRequest (map string_bytes words.now))) }
 {
     match words {
         [_, job, ranks] => match ranks_of(ranks.as_bytes()) {
-            Some(ranks) => request_for(alloc, job, ranks, None),
+            Some(ranks) => request_for(alloc, job, Command::Run { ranks }),
             None => Err(WordsError::Refused(Rule::C3)),
         },
+        _ => Err(WordsError::Refused(Rule::C2)),
+    }
+}
+
+/// `plan JOB`
+fn plan_of(alloc: Global, words: &[String]) -> Result<Request, WordsError>
+    requires { first_name (map string_bytes words.now) ≡ Some CommandName.Plan }
+    ensures found { IfOk result (IsRequest (map string_bytes words.now)) }
+    ensures refused { IfErr result (RefusesBy (RefusesPlan (map string_bytes words.now)) (HasRequest (map string_bytes words.now))) }
+{
+    match words {
+        [_, job] => request_for(alloc, job, Command::Plan),
         _ => Err(WordsError::Refused(Rule::C2)),
     }
 }
@@ -133,13 +148,13 @@ fn run_of(alloc: Global, words: &[String]) -> Result<Request, WordsError>
 /// `replay JOB RANKS SEED`
 fn replay_of(alloc: Global, words: &[String]) -> Result<Request, WordsError>
     requires { first_name (map string_bytes words.now) ≡ Some CommandName.Replay }
-    ensures found { IfOk result (λ r. (n : ℕ) × IsReplay (map string_bytes words.now) n r) }
+    ensures found { IfOk result (IsRequest (map string_bytes words.now)) }
     ensures refused { IfErr result (RefusesBy (RefusesReplay (map string_bytes words.now)) (HasRequest (map string_bytes words.now))) }
 {
     match words {
         [_, job, ranks, seed] => match ranks_of(ranks.as_bytes()) {
             Some(ranks) => match seed_of(seed.as_bytes()) {
-                Some(seed) => request_for(alloc, job, ranks, Some(seed)),
+                Some(seed) => request_for(alloc, job, Command::Replay { ranks, seed }),
                 None => Err(WordsError::Refused(Rule::C4)),
             },
             None => Err(WordsError::Refused(Rule::C3)),
@@ -157,16 +172,6 @@ fn unbuilt_on_ranks(words: &[String]) -> Rule
             Some(_) => Rule::U1,
             None => Rule::C3,
         },
-        _ => Rule::C2,
-    }
-}
-
-/// `plan JOB`, which is not built yet.
-fn unbuilt_plan(words: &[String]) -> Rule
-    ensures { RefusesPlan (map string_bytes words.now) result }
-{
-    match words {
-        [_, _] => Rule::U1,
         _ => Rule::C2,
     }
 }

@@ -6,9 +6,9 @@ ghost use Rattle.bern_top.specs.Lines.{memory_line};
 ghost use Rattle.bern_top.specs.Requests.{RefusesWords};
 ghost use Rattle.bern_top.specs.Top.{IsStatus, SaysDone, SaysRefused, SaysWords, SaysReadFault, SaysWriteFault, SaysMemory, SaysDue, SaysRefusal, PrintsText, TellsFault};
 
-use crate::calls::{replay_call, run_call};
+use crate::calls::{plan_call, replay_call, run_call};
 use crate::lines::{write_read_fault, write_refusal};
-use crate::requests::{WordsError, request_of};
+use crate::requests::{Command, WordsError, request_of};
 use crate::writing::write_whole;
 use bern_base::{Refusal, Rule, Steps, Text};
 use bern_ports::{Shelf, Sink};
@@ -79,9 +79,12 @@ fn text_of_words<F: Shelf, L: Ledger>(
     ensures told { IfSome (F.files shelf.old) (λ fs. AnswersWords fs (map string_bytes words.now) result) }
 {
     match request_of(alloc, words) {
-        Ok(request) => match request.seed {
-            None => run_call(alloc, &request.job, request.ranks, false, shelf, steps),
-            Some(seed) => replay_call(alloc, &request.job, request.ranks, seed, shelf, steps),
+        Ok(request) => match request.command {
+            Command::Run { ranks } => run_call(alloc, &request.job, ranks, false, shelf, steps),
+            Command::Plan => plan_call(alloc, &request.job, shelf),
+            Command::Replay { ranks, seed } => {
+                replay_call(alloc, &request.job, ranks, seed, shelf, steps)
+            }
         },
         Err(refused) => Err(no_request(refused)),
     }

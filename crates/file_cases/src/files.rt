@@ -3,7 +3,7 @@ use bern_base::{
     PlaceKind, Refusal, Rule, Shape, Text, Val,
 };
 use bern_ports::{MemShelf, are_once};
-use job_files::{LoadError, load_arrays, weight_within};
+use job_files::{ArrayFiles, LoadError, load_arrays, weight_within};
 use std::alloc::Global;
 use std::test::Fail;
 
@@ -214,7 +214,7 @@ enum Outcome {
     Fault(&'static [u8]),
 }
 
-fn is_as(answer: &Result<Items<Matrix>, LoadError>, outcome: &Outcome) -> bool {
+fn is_as(answer: &Result<ArrayFiles, LoadError>, outcome: &Outcome) -> bool {
     match (answer, outcome) {
         (Ok(_), Outcome::Loaded) => true,
         (
@@ -506,14 +506,14 @@ fn each_array_has_the_matrix_of_its_file(rt: HostRuntime) -> Result<(), Fail> {
         add_array(alloc, &mut job, &Words::ListTwo, (2, 1, Axis::Row), file)?;
     }
     let mut shelf = shelf(alloc)?.ok_or("a name stands twice")?;
-    let matrices = load_arrays(alloc, &name, &job, 3, &mut shelf).map_err(|_| "no matrices")?;
+    let files = load_arrays(alloc, &name, &job, 3, &mut shelf).map_err(|_| "no matrices")?;
     let entry = Entry {
         row: 1,
         col: 0,
         value: Val::new(7),
     };
-    assert_eq!(rt; matrices.len(), 3);
-    for (matrix, count) in matrices.as_slice().iter().zip([1, 0, 1]) {
+    assert_eq!(rt; files.matrices.len(), 3);
+    for (matrix, count) in files.matrices.as_slice().iter().zip([1, 0, 1]) {
         assert_eq!(rt; matrix.entries.len(), count);
         assert!(rt; matrix.entries.as_slice().iter().all(|e| *e == entry));
     }

@@ -58,7 +58,7 @@ sizes_of rows cols m later passed =
 -- ---- a part
 
 -- the part of a rank beside the whole matrix
-record IsPart (a : Axis) (m part : Matrix) (globals : List ℕ) : Type 0 where
+pub record IsPart (a : Axis) (m part : Matrix) (globals : List ℕ) : Type 0 where
   pub matrix : IsMatrix part
   pub rows : part.rows ≤ m.rows
   pub cols : part.cols ≤ m.cols
@@ -133,7 +133,7 @@ diagonals_most cols offsets (g ∷ globals) =
     omega (arith, rest, more, columns_most cols g offsets, sum_by-cons (λ g. length (diagonal_columns cols offsets g)) g globals)
 
 -- what is known of a part and its format
-record IsFit (s : Shape) (decl : ArrayDecl) (ranks : ℕ) (order globals : List ℕ) (m part : Matrix) : Type 0 where
+pub record IsFit (s : Shape) (decl : ArrayDecl) (ranks : ℕ) (order globals : List ℕ) (m part : Matrix) : Type 0 where
   pub is : IsPart decl.axis m part globals
   pub rows : m.rows ≡ decl.rows
   pub cols : m.cols ≡ decl.cols
@@ -144,13 +144,14 @@ record IsFit (s : Shape) (decl : ArrayDecl) (ranks : ℕ) (order globals : List 
   pub by_row : is_by_row s ≡ true → decl.axis ≡ axis.Row
   pub flat : decl.dims ≡ 1 → (decl.cols ≡ 1) × (decl.axis ≡ axis.Row)
   pub listed : HasOrder s decl.rows order
-  pub weight : shape_weight s ranks decl + length m.entries ≤ MOST_WEIGHT
+  pub weight : shape_weight s ranks decl ≤ MOST_WEIGHT
+  pub light : length m.entries ≤ MOST_WEIGHT
 
 vector_cols : (s : Shape) (decl : ArrayDecl) (ranks : ℕ) (order globals : List ℕ) (m part : Matrix) → IsFit s decl ranks order globals m part → dims_of s ≡ 1 → part.cols ≡ 1
 vector_cols s decl ranks order globals m part f one =
     let flat = f.flat (f.dims ∙ one) in (f.is.by_rows flat.1).1 ∙ f.cols ∙ flat.0
 
-suits_of : (s : Shape) (decl : ArrayDecl) (ranks : ℕ) (order globals : List ℕ) (m part : Matrix) → IsFit s decl ranks order globals m part → Suits s globals order part
+pub suits_of : (s : Shape) (decl : ArrayDecl) (ranks : ℕ) (order globals : List ℕ) (m part : Matrix) → IsFit s decl ranks order globals m part → Suits s globals order part
 suits_of shape.DenseOne decl ranks order globals m part f = vector_cols shape.DenseOne decl ranks order globals m part f refl
 suits_of shape.PackedOne decl ranks order globals m part f = vector_cols shape.PackedOne decl ranks order globals m part f refl
 suits_of shape.ListOne decl ranks order globals m part f = vector_cols shape.ListOne decl ranks order globals m part f refl
@@ -171,13 +172,13 @@ suits_of (shape.Permute file) decl ranks order globals m part f =
       },
     )
 
-dense_few : (decl : ArrayDecl) (m part : Matrix) (globals : List ℕ) → IsPart decl.axis m part globals → m.rows ≡ decl.rows → m.cols ≡ decl.cols → decl.rows * decl.cols + length m.entries ≤ MOST_WEIGHT
+dense_few : (decl : ArrayDecl) (m part : Matrix) (globals : List ℕ) → IsPart decl.axis m part globals → m.rows ≡ decl.rows → m.cols ≡ decl.cols → decl.rows * decl.cols ≤ MOST_WEIGHT
     → length (map (element_at part) (range_with_len 0 (part.rows * part.cols))) < 2 ^ 32
 dense_few decl m part globals is rows cols weight =
     let most : part.rows * part.cols ≤ decl.rows * decl.cols = mul-le-mul (omega (arith, is.rows, rows)) (omega (arith, is.cols, cols)) in
     omega (arith, most, weight, length-map-range_with_len (element_at part) 0 (part.rows * part.cols))
 
-few_of : (s : Shape) (decl : ArrayDecl) (ranks : ℕ) (order globals : List ℕ) (m part : Matrix) → IsFit s decl ranks order globals m part → length (stored_elements s globals part) < 2 ^ 32
+pub few_of : (s : Shape) (decl : ArrayDecl) (ranks : ℕ) (order globals : List ℕ) (m part : Matrix) → IsFit s decl ranks order globals m part → length (stored_elements s globals part) < 2 ^ 32
 few_of shape.DenseOne decl ranks order globals m part f = dense_few decl m part globals f.is f.rows f.cols f.weight
 few_of (shape.DenseDense outer) decl ranks order globals m part f = dense_few decl m part globals f.is f.rows f.cols f.weight
 few_of (shape.Diagonal offsets) decl ranks order globals m part f =
@@ -185,15 +186,15 @@ few_of (shape.Diagonal offsets) decl ranks order globals m part f =
     let count = diagonals_count offsets globals order part f.is.matrix f.levels.2 rows.0 in
     let most : length globals * length offsets ≤ MOST_SIDE * MOST_OFFSETS = mul-le-mul {n₂ = MOST_SIDE} {m₂ = MOST_OFFSETS} (omega (arith, rows.0, f.is.rows, f.rows, f.few_rows)) f.levels.0 in
     omega (arith, count, most, diagonals_most part.cols offsets globals)
-few_of shape.PackedOne decl ranks order globals m part f = omega (arith, f.is.entries, f.weight)
-few_of shape.ListOne decl ranks order globals m part f = omega (arith, f.is.entries, f.weight)
-few_of (shape.DensePacked outer) decl ranks order globals m part f = omega (arith, f.is.entries, f.weight)
-few_of (shape.PackedPacked outer) decl ranks order globals m part f = omega (arith, f.is.entries, f.weight)
-few_of shape.ListTwo decl ranks order globals m part f = omega (arith, f.is.entries, f.weight)
-few_of shape.Jagged decl ranks order globals m part f = omega (arith, f.is.entries, f.weight)
-few_of (shape.Permute file) decl ranks order globals m part f = omega (arith, f.is.entries, f.weight)
+few_of shape.PackedOne decl ranks order globals m part f = omega (arith, f.is.entries, f.light)
+few_of shape.ListOne decl ranks order globals m part f = omega (arith, f.is.entries, f.light)
+few_of (shape.DensePacked outer) decl ranks order globals m part f = omega (arith, f.is.entries, f.light)
+few_of (shape.PackedPacked outer) decl ranks order globals m part f = omega (arith, f.is.entries, f.light)
+few_of shape.ListTwo decl ranks order globals m part f = omega (arith, f.is.entries, f.light)
+few_of shape.Jagged decl ranks order globals m part f = omega (arith, f.is.entries, f.light)
+few_of (shape.Permute file) decl ranks order globals m part f = omega (arith, f.is.entries, f.light)
 
-diagonals_of : (s : Shape) (decl : ArrayDecl) (ranks : ℕ) (order globals : List ℕ) (m part : Matrix) → IsFit s decl ranks order globals m part → HasDiagonals s globals part
+pub diagonals_of : (s : Shape) (decl : ArrayDecl) (ranks : ℕ) (order globals : List ℕ) (m part : Matrix) → IsFit s decl ranks order globals m part → HasDiagonals s globals part
 diagonals_of (shape.Diagonal offsets) decl ranks order globals m part f =
     ((f.is.by_rows (f.by_row refl)).0, All-weaker (λ offset. unsigned_abs offset ≤ MOST_OFFSET) IsOffset offset_small offsets f.levels.1)
 diagonals_of shape.DenseOne decl ranks order globals m part f = tt
@@ -223,7 +224,8 @@ parts-can-be-built decl format ranks order m ts p a placed extent =
       by_row = a.by_row;
       flat = a.flat;
       listed = a.listed;
-      weight = a.weight;
+      weight = omega (arith, a.weight);
+      light = omega (arith, a.weight);
     } in record {
       matrix = is.matrix;
       suits = suits_of format.shape decl ranks order globals m part fit;

@@ -20,5 +20,6 @@ pub use laws::{
     a_set_store_describes_the_changed_part, admitted_parts_can_be_built,
     admitted_parts_can_be_viewed, lines_hang_below_the_root,
 };
+pub use local_views::LocalView;
 pub use order::{OrderError, check_order};
 pub use statistics::stats;

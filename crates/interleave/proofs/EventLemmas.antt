@@ -22,7 +22,7 @@ use Rattle.rank_scripts.proofs.RoundLemmas.{IsClosed-turns, total-turns}
 use Rattle.rank_scripts.proofs.CountLemmas.{start_count}
 use Rattle.rank_scripts.proofs.ProgressLemmas.{goes_on, done_none}
 use Rattle.rank_model.specs.Products.{IsRun, Run, end_state, part_values, scripts, schedule}
-use Rattle.rank_model.specs.Schedules.{request, values_letter}
+use Rattle.turn_model.specs.Schedules.{request, values_letter}
 use Rattle.rank_node.specs.declared.node.Node.{Node}
 use Rattle.rank_node.specs.NodeStates.{node_of}
 use Rattle.rank_node.proofs.NodeLemmas.{book_small}

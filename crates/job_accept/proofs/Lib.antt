@@ -3,3 +3,4 @@ pub mod AnswerLemmas
 pub mod OffsetLemmas
 pub mod FormatLemmas
 pub mod AxisLemmas
+pub mod VariableLemmas

@@ -1,3 +1,4 @@
 pub mod Axes
 pub mod Front
 pub mod Offsets
+pub mod Variables

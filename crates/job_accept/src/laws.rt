@@ -4,6 +4,7 @@ ghost use Rattle.job_model.specs.Accepted.{IsAccepted};
 ghost use Rattle.job_accept.specs.Axes.{OuterAxesAreOne};
 ghost use Rattle.job_accept.specs.Front.{AcceptsBytes, BytesHaveOneAnswer};
 ghost use Rattle.job_accept.specs.Offsets.{OffsetsRise};
+ghost use Rattle.job_accept.specs.Variables.{NestsHaveVariables};
 
 /// The law that bytes have one answer of [`take_job`](crate::take_job): one job, or one line and rule, and never both. It
 /// does nothing.
@@ -27,4 +28,9 @@ pub fn offsets_of_diagonals_rise()
 /// with another has no form. It does nothing.
 pub fn outer_axes_are_one()
     ensures { OuterAxesAreOne }
+{}
+
+/// The law that each nest has a loop variable in what bytes are accepted as: a line with none has no form. It does nothing.
+pub fn nests_have_variables()
+    ensures { NestsHaveVariables }
 {}

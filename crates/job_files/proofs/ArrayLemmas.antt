@@ -11,8 +11,10 @@ use Rattle.bern_base.specs.declared.job.PlaceKind.{PlaceKind}
 use Rattle.bern_base.specs.declared.job.PlaceKind.TheVariants as kind
 use Rattle.bern_base.specs.declared.matrix.Matrix.{Matrix}
 use Rattle.bern_ports.specs.Files.{Files}
-use Rattle.job_files.specs.FileOrder.{IsForUse, IsOfUse}
-use Rattle.job_files.specs.Uses.{IsArray, array_matrices, entries_from, entries_in, entries_of, entries_read, diagonals_of, file_use, has_file, is_array, kind_use, left_by, matrices_from, order_of, order_use, place_use, places_after, size_of, spread, taken, uses_by, uses_from, uses_of, with_entries}
+use Rattle.format_model.specs.Checks.{sizes_rule}
+use Rattle.job_files.specs.FileOrder.{IsArrayIn, IsForUse, IsOfUse, astray_rule}
+use Rattle.job_files.proofs.ServingLemmas.{none_first, suits}
+use Rattle.job_files.specs.Uses.{array_matrices, entries_from, entries_in, entries_of, entries_read, diagonals_of, file_use, has_file, is_array, kind_use, left_by, matrices_from, order_of, order_use, place_use, places_after, size_of, spread, taken, uses_by, uses_from, uses_of, with_entries}
 use Rattle.job_files.specs.declared.uses.Use.{Use}
 use Rattle.job_files.specs.declared.uses.Use.TheVariants as by
 
@@ -108,25 +110,40 @@ module _ (files : Files) (formats : List FormatDecl) where
   spread_all [] ms zip = refl
   spread_all (array ∷ arrays) ms zip = spread_with array arrays (diagonals_of formats array) array.file ms (spread_all arrays) zip
 
--- a matrix for each array, of the array's sizes
-empty_array : (array : ArrayDecl) → IsArray array (with_entries array [])
-empty_array array = record {
-  matrix = record { inside = λ k d within. absurd (omega (arith, within)); rising = λ k below. absurd (omega (arith, below)) };
-  rows = refl;
-  cols = refl;
+-- a matrix for each array, as its format asks
+empty_array : (formats : List FormatDecl) (array : ArrayDecl) → IsArrayIn formats array (with_entries array [])
+empty_array formats array = record {
+  is = record {
+    matrix = record { inside = λ k d within. absurd (omega (arith, within)); rising = λ k below. absurd (omega (arith, below)) };
+    rows = refl;
+    cols = refl;
+    few = omega arith;
+  };
+  straight = none_astray (diagonals_of formats array);
 }
+  where
+    none_astray : (diagonals : Option (List ℤ)) → astray_rule diagonals (with_entries array []) ≡ None
+    none_astray None = refl
+    none_astray (Some offsets) = refl
 
 module _ (formats : List FormatDecl) where
-  arrays_with : (array : ArrayDecl) (arrays : List ArrayDecl) (diagonals : Option (List ℤ)) (file : Option (List ℕ)) (ms : List Matrix) →
-      ((ns : List Matrix) → AllZip IsForUse (own_uses formats arrays) ns → AllZip IsArray arrays (spread arrays ns)) →
-      AllZip IsForUse (file_use array diagonals file ++ own_uses formats arrays) ms → IsArray array (taken array file ms) × AllZip IsArray arrays (spread arrays (left_by file ms))
-  arrays_with array arrays diagonals None ms rest zip = (empty_array array, rest ms zip)
-  arrays_with array arrays diagonals (Some file) [] rest zip = absurd zip
-  arrays_with array arrays diagonals (Some file) (m ∷ ms) rest zip = (record { matrix = zip.0.matrix; rows = zip.0.suits.0; cols = zip.0.suits.1 }, rest ms zip.1)
+  arrays_with : (array : ArrayDecl) (arrays : List ArrayDecl) (diagonals : Option (List ℤ)) (file : Option (List ℕ)) (ms : List Matrix) → diagonals_of formats array ≡ diagonals →
+      ((ns : List Matrix) → AllZip IsForUse (own_uses formats arrays) ns → AllZip (IsArrayIn formats) arrays (spread arrays ns)) →
+      AllZip IsForUse (file_use array diagonals file ++ own_uses formats arrays) ms → IsArrayIn formats array (taken array file ms) × AllZip (IsArrayIn formats) arrays (spread arrays (left_by file ms))
+  arrays_with array arrays diagonals None ms same rest zip = (empty_array formats array, rest ms zip)
+  arrays_with array arrays diagonals (Some file) [] same rest zip = absurd zip
+  arrays_with array arrays diagonals (Some file) (m ∷ ms) same rest zip =
+      let sizes = suits m (by.Array file array.rows array.cols diagonals) zip.0.fits in (
+        record {
+          is = record { matrix = zip.0.matrix; rows = sizes.0; cols = sizes.1; few = zip.0.light };
+          straight = ap (λ d. astray_rule d m) same ∙ (none_first (sizes_rule array.rows array.cols m) (astray_rule diagonals m) zip.0.fits).1;
+        },
+        rest ms zip.1,
+      )
 
-  pub spread_arrays : (arrays : List ArrayDecl) (ms : List Matrix) → AllZip IsForUse (own_uses formats arrays) ms → AllZip IsArray arrays (spread arrays ms)
+  pub spread_arrays : (arrays : List ArrayDecl) (ms : List Matrix) → AllZip IsForUse (own_uses formats arrays) ms → AllZip (IsArrayIn formats) arrays (spread arrays ms)
   spread_arrays [] ms zip = tt
-  spread_arrays (array ∷ arrays) ms zip = arrays_with array arrays (diagonals_of formats array) array.file ms (spread_arrays arrays) zip
+  spread_arrays (array ∷ arrays) ms zip = arrays_with array arrays (diagonals_of formats array) array.file ms refl (spread_arrays arrays) zip
 
 -- those that are left after an array
 left_len : (file : Option (List ℕ)) (items : List Matrix) (array : ArrayDecl) (others : List ArrayDecl) → length items ≡ length (cond (is_some file) (array ∷ others) others) → length (left_by file items) ≡ length others

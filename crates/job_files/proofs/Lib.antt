@@ -9,3 +9,4 @@ pub mod TotalLemmas
 pub mod ArrayLemmas
 pub mod JobLemmas
 pub mod ShapeLemmas
+pub mod OrderLemmas

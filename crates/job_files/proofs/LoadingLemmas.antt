@@ -1,6 +1,7 @@
 -- Matrix files, from what was read of them to how they serve their uses.
-use Rattle.std.proofs.Common.{◌≡◌, ℕ, ◌+◌, ◌<◌, ◌≤◌, Bool, true, false, nat_lt, if◌then◌else◌, List, ◌++◌, length, length-append, Option, Some, None, Result, Ok, Err, sym, ap, ◌∙◌, subst, inl, inr, arith}
+use Rattle.std.proofs.Common.{◌≡◌, ℕ, ◌+◌, ◌<◌, ◌≤◌, Bool, true, false, nat_lt, if◌then◌else◌, List, ◌++◌, length, length-append, Option, Some, None, Result, Ok, Err, IfOk, sym, ap, ◌∙◌, subst, inl, inr, arith}
 use Rattle.std.proofs.lemmas.Bool.{le-ltb, lt-ltb}
+use Rattle.bern_base.specs.Matrix.{IsMatrix}
 use Rattle.bern_base.specs.declared.limits.TheConstants.{MOST_FILE_BYTES, MOST_WEIGHT}
 use Rattle.bern_base.specs.declared.matrix.Matrix.{Matrix}
 use Rattle.bern_base.specs.declared.refusal.Rule.{Rule}
@@ -17,7 +18,7 @@ use Rattle.job_files.specs.declared.serving.Loaded.{Loaded}
 use Rattle.job_files.specs.declared.uses.Use.{Use}
 use Rattle.job_files.specs.Answers.{IsOf, IsOfFile, IsRefusalOf, LoadsMatrix, Stands}
 use Rattle.job_files.specs.FileOrder.{Refused, added, first_broken, found, has, judged, served, weight_with, within_limit}
-use Rattle.job_files.specs.Serving.{IsJudged, IsTaken, Takes}
+use Rattle.job_files.specs.Serving.{IsFit, IsJudged, IsTaken, Takes}
 
 -- what was read of a file is what it has
 pub of_loads : (files : Files) (name : List ℕ) (result : Result Matrix LoadError) → IsOfFile files name result → LoadsMatrix files name result
@@ -77,3 +78,12 @@ pub judged_by : (uses : List Use) (name : List ℕ) (m : Matrix) (rule : Rule) (
 judged_by uses name m rule (e.Refused refusal) broken is = (rule, broken, is)
 judged_by uses name m rule (e.ReadFault file) broken is = absurd is
 judged_by uses name m rule e.NoMemory broken is = tt
+
+-- what is taken breaks no rule, and keeps the limit with its entries
+pub fit_taken : (uses : List Use) (weight : ℕ) (name : List ℕ) (m : Matrix) (result : Result Loaded LoadError) → IsMatrix m → IsTaken uses weight name m result → IfOk result (λ l. IsFit uses name l.matrix)
+fit_taken uses weight name m (Ok l) is taken = record {
+  matrix = subst IsMatrix (sym taken.0.0) is;
+  fits = taken.0.1;
+  light = subst (λ n. added uses name n ≤ MOST_WEIGHT) (sym taken.0.0) (omega (arith, taken.1.1, taken.1.2));
+}
+fit_taken uses weight name m (Err fault) is taken = tt

@@ -1,10 +1,12 @@
 -- LoadsUses over uses, from the matrices and the weight of the first ones.
-use Rattle.std.proofs.Common.{◌≡◌, ℕ, zero, suc, ◌+◌, ◌<◌, ◌≤◌, Bool, true, false, ◌||◌, ◌==◌, not, cond, nat_lt, if◌then◌else◌, List, [], ◌∷◌, ◌++◌, length, get_or, take, drop, Option, Some, None, is_some, Result, Ok, Err, length-append, add-one, sym, ap, ◌∙◌, subst, refl, arith}
-use Rattle.std.specs.List.{AllZip, list_any, position, position_or_len, slice_get}
+use Rattle.std.proofs.Common.{◌≡◌, ℕ, zero, suc, ◌+◌, ◌*◌, ◌<◌, ◌≤◌, Bool, true, false, ◌||◌, ◌==◌, not, cond, nat_lt, if◌then◌else◌, List, [], ◌∷◌, ◌++◌, length, get_or, take, drop, Option, Some, None, is_some, Result, Ok, Err, length-append, add-one, sym, ap, ◌∙◌, subst, refl, arith}
+use Rattle.std.specs.List.{AllZip, count_by, list_any, position, position_or_len, slice_get}
 use Rattle.std.proofs.lemmas.Bool.{and_parts, lt-ltb}
 use Rattle.std.proofs.lemmas.Bool.Decides.{Decides-eqb, nat_tests}
+use Rattle.std.proofs.Math.Nat.{le_trans}
 use Rattle.std.proofs.Math.Seq.{take-length}
 use Rattle.std.proofs.lemmas.List.Quantifiers.{position-Some}
+use Rattle.std.proofs.lemmas.List.Sums.{sum_by-cons}
 use Rattle.std.proofs.lemmas.Option.{slice_get-get_or, slice_get_read}
 use Rattle.std.proofs.lemmas.Slice.Eq.{bytes_eq-Decides}
 use Rattle.bern_base.specs.declared.matrix.Matrix.{Matrix}
@@ -160,12 +162,12 @@ use_stops files weight uses ms now u fault so_far at goes =
     stops_next files weight uses ms now u fault (is_known uses ms (file_of u)) so_far at (sym (known_is (file_of u) uses ms)) goes
 
 -- the first rule that is broken is none where each is none
-none_first : (one two : Option Rule) → first_of one two ≡ None → (one ≡ None) × (two ≡ None)
+pub none_first : (one two : Option Rule) → first_of one two ≡ None → (one ≡ None) × (two ≡ None)
 none_first None two is = (refl, is)
 none_first (Some rule) two is = absurd cc
 
 -- a matrix that breaks no rule in a use suits it
-suits : (m : Matrix) (u : Use) → broken_rule m u ≡ None → Suits u m
+pub suits : (m : Matrix) (u : Use) → broken_rule m u ≡ None → Suits u m
 suits m (by.Order file rows) is = is
 suits m (by.Place file extent ranks) is = is
 suits m (by.Array file rows cols diagonals) is = at (has_sizes rows cols m) refl (none_first (sizes_rule rows cols m) (astray_rule diagonals m) is).0
@@ -174,33 +176,55 @@ suits m (by.Array file rows cols diagonals) is = at (has_sizes rows cols m) refl
     at true both is = let parts = and_parts (m.rows == rows) (m.cols == cols) both in ((Decides-eqb m.rows rows).0 parts.0, (Decides-eqb m.cols cols).0 parts.1)
     at false both is = absurd cc
 
-own_suits : (u : Use) (m : Matrix) → broken_in (file_of u) m u ≡ None → Suits u m
-own_suits u m is =
+own_fits : (u : Use) (m : Matrix) → broken_in (file_of u) m u ≡ None → broken_rule m u ≡ None
+own_fits u m is =
     let own : is_of (file_of u) u ≡ true = (bytes_eq-Decides (file_of u) (file_of u)).1 refl in
-    suits m u (subst (λ b. (if b then broken_rule m u else None) ≡ None) own is)
+    subst (λ b. (if b then broken_rule m u else None) ≡ None) own is
 
--- these uses are the last of all, so what breaks no rule in all breaks none in them
-abbrev AreLast : List Use → List Use → Type 0
-AreLast all uses = (name : List ℕ) (m : Matrix) → first_broken name m all ≡ None → first_broken name m uses ≡ None
+-- these uses are the last of all, so what breaks no rule in all breaks none in them, and no file has more uses in them
+record AreLast (all uses : List Use) : Type 0 where
+  pub fits : (name : List ℕ) (m : Matrix) → first_broken name m all ≡ None → first_broken name m uses ≡ None
+  pub fewer : (name : List ℕ) → count_by (is_of name) uses ≤ count_by (is_of name) all
 
 later_last : (all uses : List Use) (u : Use) → AreLast all (u ∷ uses) → AreLast all uses
-later_last all uses u last = λ name m fits. (none_first (broken_in name m u) (first_broken name m uses) (last name m fits)).1
+later_last all uses u last = record {
+  fits = λ name m fits. (none_first (broken_in name m u) (first_broken name m uses) (last.fits name m fits)).1;
+  fewer = λ name.
+      let more : count_by (is_of name) (u ∷ uses) ≡ cond (is_of name u) 1 0 + count_by (is_of name) uses = sum_by-cons (λ w. cond (is_of name w) 1 0) u uses in
+      let below = last.fewer name in omega (arith, more, below);
+}
 
-of_first : (all uses : List Use) (u : Use) (m : Matrix) → AreLast all (u ∷ uses) → first_broken (file_of u) m all ≡ None → Suits u m
-of_first all uses u m last fits = own_suits u m (none_first (broken_in (file_of u) m u) (first_broken (file_of u) m uses) (last (file_of u) m fits)).0
+-- a file has a use that is its own
+some_use : (all uses : List Use) (u : Use) → AreLast all (u ∷ uses) → 1 ≤ count_by (is_of (file_of u)) all
+some_use all uses u last =
+    let own : count_by (is_of (file_of u)) (u ∷ uses) ≡ 1 + count_by (is_of (file_of u)) uses =
+    sum_by-cons (λ w. cond (is_of (file_of u) w) 1 0) u uses ∙ ap (λ b. cond b 1 0 + count_by (is_of (file_of u)) uses) ((bytes_eq-Decides (file_of u) (file_of u)).1 refl) in
+    let below = last.fewer (file_of u) in omega (arith, own, below)
+
+-- a product is no less than a factor where the other one is not 0
+no_less : (count entries : ℕ) → 1 ≤ count → entries ≤ count * entries
+no_less zero entries some = absurd (omega (arith, some))
+no_less (suc count) entries some = omega arith
+
+of_first : (all uses : List Use) (u : Use) (m : Matrix) → AreLast all (u ∷ uses) → first_broken (file_of u) m all ≡ None → broken_rule m u ≡ None
+of_first all uses u m last fits = own_fits u m (none_first (broken_in (file_of u) m u) (first_broken (file_of u) m uses) (last.fits (file_of u) m fits)).0
 
 are_for_uses : (all uses : List Use) (ms : List Matrix) → AreLast all uses → Beside (IsFitFor all) uses ms → length ms ≡ length uses → AllZip IsForUse uses ms
 are_for_uses all [] [] last beside same = tt
 are_for_uses all [] (m ∷ ms) last beside same = absurd beside
 are_for_uses all (u ∷ uses) [] last beside same = absurd (omega (arith, same))
 are_for_uses all (u ∷ uses) (m ∷ ms) last beside same = (
-  record { matrix = beside.0.matrix; suits = of_first all uses u m last beside.0.fits },
+  record {
+    matrix = beside.0.matrix;
+    fits = of_first all uses u m last beside.0.fits;
+    light = le_trans (no_less (count_by (is_of (file_of u)) all) (length m.entries) (some_use all uses u last)) beside.0.light;
+  },
   are_for_uses all uses ms (later_last all uses u last) beside.1 (omega (arith, same)),
 )
 
 -- each use has a matrix that suits it
 pub all_for_uses : (uses : List Use) (ms : List Matrix) → Beside (IsFitFor uses) uses ms → length ms ≡ length uses → AllZip IsForUse uses ms
-all_for_uses uses ms beside same = are_for_uses uses uses ms (λ name m fits. fits) beside same
+all_for_uses uses ms beside same = are_for_uses uses uses ms (record { fits = λ name m fits. fits; fewer = λ name. omega arith }) beside same
 
 -- a matrix with which a file serves all of its uses is that of each of them
 of_use : (files : Files) (all uses : List Use) (u : Use) (m : Matrix) → AreLast all (u ∷ uses) → served files all (file_of u) ≡ Ok m → IsOfUse files u m
@@ -210,7 +234,7 @@ of_use files all uses u m last is = there (bytes_of files (file_of u)) refl is
         judged (file_of u) n broken ≡ Ok m → IsOfUse files u m
     fits bytes n None at reads none is =
         let same : n ≡ m = cc in
-        record { bytes = bytes; there = at; read = reads ∙ ap (λ k. Ok k) same; suits = subst (λ k. Suits u k) same (of_first all uses u n last none) }
+        record { bytes = bytes; there = at; read = reads ∙ ap (λ k. Ok k) same; suits = subst (λ k. Suits u k) same (suits n u (of_first all uses u n last none)) }
     fits bytes n (Some rule) at reads broken is = absurd cc
 
     read : (bytes : List ℕ) (result : Result Matrix Fault) → bytes_of files (file_of u) ≡ Some bytes → mm bytes ≡ result → has all (file_of u) result ≡ Ok m → IsOfUse files u m
@@ -235,7 +259,7 @@ pub uses_done : (files : Files) (weight : ℕ) (uses : List Use) (ms : List Matr
 uses_done files weight uses ms now so_far same =
     let all : take (length ms) uses ≡ uses = ap (λ n. take n uses) same ∙ take-length uses in (
       ap stop_of (ap (λ us. weight_after files uses weight (mentioned us)) (sym all) ∙ so_far.weight_is),
-      are_of_uses files uses uses ms (λ name m fits. fits) so_far.served same,
+      are_of_uses files uses uses ms (record { fits = λ name m fits. fits; fewer = λ name. omega arith }) so_far.served same,
     )
 
 -- the use at the number of the matrices so far

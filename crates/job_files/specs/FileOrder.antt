@@ -3,7 +3,9 @@
 use Rattle.std.specs.Prelude.{◌≡◌, ℕ, ◌+◌, ◌*◌, ◌≤◌, nat_lt, if◌then◌else◌, List, [], ◌∷◌, ◌++◌, length, ℤ, Option, Some, None, Result, Ok, Err, ⊤}
 use Rattle.std.specs.List.{AllZip, count_by}
 use Rattle.bern_base.specs.Matrix.{IsMatrix}
+use Rattle.bern_base.specs.declared.job.ArrayDecl.{ArrayDecl}
 use Rattle.bern_base.specs.declared.job.Checked.{Checked}
+use Rattle.bern_base.specs.declared.job.FormatDecl.{FormatDecl}
 use Rattle.bern_base.specs.declared.limits.TheConstants.{MOST_WEIGHT}
 use Rattle.bern_base.specs.declared.matrix.Matrix.{Matrix}
 use Rattle.bern_base.specs.declared.refusal.Rule.{Rule}
@@ -15,7 +17,7 @@ use Rattle.format_model.specs.Checks.{first_of, sizes_rule}
 use Rattle.formats.specs.FileRules.{diagonals_rule, order_rule}
 use Rattle.placement.specs.Listed.{listed_rule}
 use Rattle.mm_profile.specs.Profile.{Fault, mm, and_then}
-use Rattle.job_files.specs.Uses.{entries_in, file_of, is_of, matrices_from, mentioned, uses_of}
+use Rattle.job_files.specs.Uses.{IsArray, diagonals_of, entries_in, file_of, is_of, matrices_from, mentioned, uses_of}
 use Rattle.job_files.specs.Weight.{weight_of}
 use Rattle.job_files.specs.declared.load_error.LoadError.{LoadError}
 use Rattle.job_files.specs.declared.load_error.LoadError.TheVariants as e
@@ -122,9 +124,16 @@ Suits (by.Order file rows) m = order_rule rows m ≡ None
 Suits (by.Place file extent ranks) m = listed_rule extent ranks m ≡ None
 Suits (by.Array file rows cols diagonals) m = (m.rows ≡ rows) × (m.cols ≡ cols)
 
+-- a matrix within the limit on weights that breaks no rule in a use
 pub record IsForUse (u : Use) (m : Matrix) : Type 0 where
   pub matrix : IsMatrix m
-  pub suits : Suits u m
+  pub fits : broken_rule m u ≡ None
+  pub light : length m.entries ≤ MOST_WEIGHT
+
+-- the matrix of an array of a job, without a value off the diagonals that its format lists
+pub record IsArrayIn (formats : List FormatDecl) (array : ArrayDecl) (m : Matrix) : Type 0 where
+  pub is : IsArray array m
+  pub straight : astray_rule (diagonals_of formats array) m ≡ None
 
 -- the matrix of the file of a use, as the use asks it
 pub record IsOfUse (files : Files) (u : Use) (m : Matrix) : Type 0 where

@@ -4,3 +4,4 @@ pub mod Answers
 pub mod FileOrder
 pub mod Serving
 pub mod Laws
+pub mod RowOrders

@@ -21,10 +21,11 @@ Beside P uses [] = ⊤
 Beside P [] (m ∷ ms) = ⊥
 Beside P (u ∷ uses) (m ∷ ms) = P u m × Beside P uses ms
 
--- a matrix that breaks no rule in the uses of this file
+-- a matrix that breaks no rule in the uses of this file, and keeps the limit with its entries for each of them
 pub record IsFit (uses : List Use) (name : List ℕ) (m : Matrix) : Type 0 where
   pub matrix : IsMatrix m
   pub fits : first_broken name m uses ≡ None
+  pub light : added uses name m ≤ MOST_WEIGHT
 
 abbrev pub IsFitFor : List Use → Use → Matrix → Type 0
 IsFitFor uses u m = IsFit uses (file_of u) m

@@ -1,5 +1,5 @@
 -- The uses of a job's files, the files by first mention, and what the arrays of a job begin with: zeros, or the matrix of a file.
-use Rattle.std.specs.Prelude.{◌≡◌, ℕ, ◌+◌, ◌==◌, Bool, true, false, not, if◌then◌else◌, List, [], ◌∷◌, ◌++◌, ℤ, Option, Some, None, is_some, Result, Ok, Err, map, slice_get}
+use Rattle.std.specs.Prelude.{◌≡◌, ℕ, ◌+◌, ◌≤◌, ◌==◌, Bool, true, false, not, if◌then◌else◌, List, [], ◌∷◌, ◌++◌, ℤ, Option, Some, None, is_some, Result, Ok, Err, length, map, slice_get}
 use Rattle.std.specs.List.{filter, flat_map}
 use Rattle.std.specs.Str.{bytes_eq}
 use Rattle.bern_base.specs.Matrix.{IsMatrix}
@@ -10,6 +10,7 @@ use Rattle.bern_base.specs.declared.job.FormatDecl.{FormatDecl}
 use Rattle.bern_base.specs.declared.job.PlaceDecl.{PlaceDecl}
 use Rattle.bern_base.specs.declared.job.PlaceKind.{PlaceKind}
 use Rattle.bern_base.specs.declared.job.PlaceKind.TheVariants as kind
+use Rattle.bern_base.specs.declared.limits.TheConstants.{MOST_WEIGHT}
 use Rattle.bern_base.specs.declared.matrix.Entry.{Entry}
 use Rattle.bern_base.specs.declared.matrix.Matrix.{Matrix}
 use Rattle.bern_base.specs.declared.shape.Shape.{Shape}
@@ -97,6 +98,22 @@ uses_from ranks job number (array ∷ arrays) = places_after ranks job number ++
 abbrev pub uses_of : ℕ → Checked → List Use
 uses_of ranks job = uses_from ranks job 0 job.arrays
 
+-- a job with these places for its own
+abbrev pub with_places : List PlaceDecl → Checked → Checked
+with_places places job = record {
+  extents = job.extents;
+  places = places;
+  formats = job.formats;
+  arrays = job.arrays;
+  nests = job.nests;
+  turns = job.turns;
+  prints = job.prints;
+}
+
+-- the job whose files are walked for a plan: which rank has an index makes no plan another one, so places mention no file
+abbrev pub unplaced : Checked → Checked
+unplaced job = with_places [] job
+
 -- an array is read from the file in this use
 abbrev pub is_array : Use → Bool
 is_array (by.Order file rows) = false
@@ -121,11 +138,12 @@ entries_read (Some bytes) = entries_of (mm bytes)
 abbrev pub entries_in : Files → List ℕ → List Entry
 entries_in files name = entries_read (bytes_of files name)
 
--- a matrix of an array's sizes
+-- a matrix of an array's sizes, of no more entries than all arrays may weigh
 pub record IsArray (array : ArrayDecl) (m : Matrix) : Type 0 where
   pub matrix : IsMatrix m
   pub rows : m.rows ≡ array.rows
   pub cols : m.cols ≡ array.cols
+  pub few : length m.entries ≤ MOST_WEIGHT
 
 -- an array by its sizes and these entries
 abbrev pub with_entries : ArrayDecl → List Entry → Matrix

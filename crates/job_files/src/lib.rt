@@ -10,12 +10,13 @@ mod laws;
 mod load_error;
 mod matrix_file;
 mod mentions;
+mod orders;
 mod reading;
 mod serving;
 mod uses;
 mod weights;
 
-pub use arrays::load_arrays;
+pub use arrays::{ArrayFiles, load_arrays, load_arrays_to_plan};
 pub use laws::{files_are_reached, matrices_keep_the_limit};
 pub use load_error::{LoadError, refusal};
 pub use matrix_file::load_matrix;

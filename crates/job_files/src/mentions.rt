@@ -1,6 +1,6 @@
 ghost use Rattle.std.specs.Prelude.{◌≡◌, ◌++◌, slice_get, IfOk, OnOk};
 ghost use Rattle.std.specs.Option.{option_copied};
-ghost use Rattle.job_files.specs.Uses.{diagonals_of, file_use, order_of, order_use, place_use, places_after, size_of, uses_of};
+ghost use Rattle.job_files.specs.Uses.{diagonals_of, file_use, order_of, order_use, place_use, places_after, size_of, uses_of, with_places};
 
 use crate::uses::Use;
 use bern_base::{
@@ -8,32 +8,38 @@ use bern_base::{
 };
 use std::alloc::Global;
 
-/// The uses of files by the places and the arrays of a job, in the order of their lines. An array mentions the file that its
-/// format names right before its own.
-pub fn uses_of(alloc: Global, job: &Checked, ranks: u32) -> Result<Items<Use>, NoMemory>
-    ensures { IfOk result (λ uses. uses ≡ uses_of ranks job.now) }
+/// The uses of files by these places and the arrays of a job, in the order of their lines. An array mentions the file that
+/// its format names right before its own.
+pub fn uses_of(
+    alloc: Global,
+    job: &Checked,
+    places: &[PlaceDecl],
+    ranks: u32,
+) -> Result<Items<Use>, NoMemory>
+    ensures { IfOk result (λ uses. uses ≡ uses_of ranks (with_places places.now job.now)) }
 {
     let mut uses = Items::new(alloc);
     for (number, array) in job.arrays.as_slice().iter().enumerate() {
-        push_places(alloc, &mut uses, job, ranks, number)?;
+        push_places(alloc, &mut uses, job, places, ranks, number)?;
         push_order(alloc, &mut uses, &job.formats, array)?;
         push_file(alloc, &mut uses, &job.formats, array)?;
     }
-    push_places(alloc, &mut uses, job, ranks, job.arrays.len())?;
+    push_places(alloc, &mut uses, job, places, ranks, job.arrays.len())?;
     Ok(uses)
 }
 
-/// Appends the uses of files by the places that are declared after so many arrays, and before the next one.
+/// Appends the uses of files by those of the places that are declared after so many arrays, and before the next one.
 fn push_places(
     alloc: Global,
     uses: &mut Items<Use>,
     job: &Checked,
+    places: &[PlaceDecl],
     ranks: u32,
     number: usize,
 ) -> Result<(), NoMemory>
-    ensures { OnOk result (uses.new ≡ uses.old ++ places_after ranks job.now number) }
+    ensures { OnOk result (uses.new ≡ uses.old ++ places_after ranks (with_places places.now job.now) number) }
 {
-    for place in job.places.as_slice() {
+    for place in places {
         if place.arrays_before == number {
             push_place(alloc, uses, &job.extents, place, ranks)?;
         }
@@ -110,7 +116,7 @@ fn push_file(
 }
 
 /// The file that has the order of an array's rows, which its permute format names.
-fn order_of<'a>(formats: &'a Items<FormatDecl>, array: &ArrayDecl) -> Option<&'a Text>
+pub(crate) fn order_of<'a>(formats: &'a Items<FormatDecl>, array: &ArrayDecl) -> Option<&'a Text>
     ensures { option_copied result ≡ order_of formats.now array.now }
 {
     match formats.get(array.format as usize) {

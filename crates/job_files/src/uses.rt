@@ -4,6 +4,7 @@ ghost use Rattle.bern_base.specs.Matrix.{IsMatrix};
 ghost use Rattle.format_model.specs.Checks.{first_of, sizes_rule};
 ghost use Rattle.formats.specs.FileRules.{order_rule};
 ghost use Rattle.job_files.specs.FileOrder.{astray_rule, broken_in, broken_rule, first_broken};
+ghost use Rattle.job_files.specs.RowOrders.{is_order_of};
 ghost use Rattle.job_files.specs.Uses.{file_of, is_array, is_of};
 
 use bern_base::{Items, Matrix, NoMemory, Rule, Text};
@@ -51,6 +52,19 @@ impl Use {
         ensures { result ≡ is_array self.now }
     {
         matches!(self, Use::Array { .. })
+    }
+
+    /// Whether the order of so many rows is read from that file.
+    fn is_order_of(&self, file: &[u8], rows: u32) -> bool
+        ensures { result ≡ is_order_of file.now rows self.now }
+    {
+        match self {
+            Use::Order {
+                file: own,
+                rows: count,
+            } => own.as_bytes() == file && *count == rows,
+            _ => false,
+        }
     }
 
     /// The first rule that the file's matrix breaks in this use: F1 and F3 for an order of rows, F1 and F2 for an array,
@@ -132,6 +146,15 @@ pub fn first_use(uses: &Items<Use>, file: &[u8]) -> Option<usize>
     uses.as_slice()
         .iter()
         .position(|wanted| is_of(wanted, file))
+}
+
+/// The place of the first use of that file for the order of so many rows.
+pub fn order_use(uses: &Items<Use>, file: &[u8], rows: u32) -> Option<usize>
+    ensures { result ≡ position (is_order_of file.now rows) uses.now }
+{
+    uses.as_slice()
+        .iter()
+        .position(|wanted| wanted.is_order_of(file, rows))
 }
 
 /// How many uses are of that file.

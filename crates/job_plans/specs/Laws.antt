@@ -4,6 +4,7 @@ use Rattle.std.specs.List.{All}
 use Rattle.bern_base.specs.declared.job.Checked.{Checked}
 use Rattle.bern_base.specs.declared.limits.TheConstants.{MOST_SIDE, MOST_WEIGHT}
 use Rattle.bern_base.specs.declared.matrix.Matrix.{Matrix}
+use Rattle.bern_base.specs.declared.stats.Stats.{Stats}
 use Rattle.job_model.specs.Accepted.{IsAccepted}
 use Rattle.join_plan.specs.Laws.{HasOuterAxis}
 use Rattle.term_model.specs.declared.plan.Plans.{Plans}
@@ -30,3 +31,8 @@ AcceptedJobsCanBePlanned = (job : Checked) (ms : List Matrix) → IsPlannable jo
 -- plans of least cost are plans of the terms by the formats of the job, so what runs any plans runs these
 abbrev pub LeastPlansArePlans : Type 0
 LeastPlansArePlans = (job : Checked) (ms : List Matrix) (plans : Plans) → IsPlannable job ms → AreLeast job (measured job ms) plans → ArePlansOf job plans
+
+-- a job has plans of least cost, and one list of them alone, whatever was measured
+abbrev pub PlansAreOne : Type 0
+PlansAreOne =
+    (job : Checked) (stats : List Stats) → (plans : Plans) × AreLeast job stats plans × ((other : Plans) → AreLeast job stats other → other ≡ plans)

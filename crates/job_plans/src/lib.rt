@@ -7,6 +7,6 @@ mod laws;
 mod measuring;
 mod planning;
 
-pub use laws::{accepted_jobs_can_be_planned, least_plans_are_plans};
+pub use laws::{accepted_jobs_can_be_planned, least_plans_are_plans, plans_are_one};
 pub use measuring::measured;
 pub use planning::plans;

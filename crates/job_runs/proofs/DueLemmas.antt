@@ -6,9 +6,11 @@ use Rattle.bern_base.proofs.ValuesLemmas.{no_entries}
 use Rattle.bern_base.specs.Matrix.{IsMatrix, values_of}
 use Rattle.bern_base.specs.declared.job.ArrayDecl.{ArrayDecl}
 use Rattle.bern_base.specs.declared.job.Checked.{Checked}
+use Rattle.bern_base.specs.declared.job.FormatDecl.{FormatDecl}
 use Rattle.bern_base.specs.declared.matrix.Entry.{Entry}
 use Rattle.bern_base.specs.declared.matrix.Matrix.{Matrix}
-use Rattle.job_files.specs.Uses.{IsArray, entries_from, matrices_from, with_entries}
+use Rattle.job_files.specs.FileOrder.{IsArrayIn}
+use Rattle.job_files.specs.Uses.{entries_from, matrices_from, with_entries}
 use Rattle.job_model.specs.Nests.{end_state, first_values}
 use Rattle.job_model.specs.Nests as nest
 use Rattle.job_model.specs.State.{State}
@@ -20,21 +22,21 @@ abbrev Pairs : Type 0
 Pairs = List (ℕ × ℕ)
 
 -- a matrix of each array's sizes
-sizes_are : (arrays : List ArrayDecl) (ms : List Matrix) → AllZip IsArray arrays ms → map sizes_of ms ≡ map declared_sizes arrays
-sizes_are [] [] zip = refl
-sizes_are [] (m ∷ ms) zip = absurd zip
-sizes_are (array ∷ arrays) [] zip = absurd zip
-sizes_are (array ∷ arrays) (m ∷ ms) zip =
-    ap (λ r. (r, m.cols) ∷ map sizes_of ms) zip.0.rows ∙ ap (λ c. (array.rows, c) ∷ map sizes_of ms) zip.0.cols ∙ ap (λ (others : Pairs). declared_sizes array ∷ others) (sizes_are arrays ms zip.1)
+sizes_are : (formats : List FormatDecl) (arrays : List ArrayDecl) (ms : List Matrix) → AllZip (IsArrayIn formats) arrays ms → map sizes_of ms ≡ map declared_sizes arrays
+sizes_are formats [] [] zip = refl
+sizes_are formats [] (m ∷ ms) zip = absurd zip
+sizes_are formats (array ∷ arrays) [] zip = absurd zip
+sizes_are formats (array ∷ arrays) (m ∷ ms) zip =
+    ap (λ r. (r, m.cols) ∷ map sizes_of ms) zip.0.is.rows ∙ ap (λ c. (array.rows, c) ∷ map sizes_of ms) zip.0.is.cols ∙ ap (λ (others : Pairs). declared_sizes array ∷ others) (sizes_are formats arrays ms zip.1)
 
-matrices_are : (arrays : List ArrayDecl) (ms : List Matrix) → AllZip IsArray arrays ms → All IsMatrix ms
-matrices_are [] [] zip = λ k d within. absurd (omega (arith, within))
-matrices_are [] (m ∷ ms) zip = absurd zip
-matrices_are (array ∷ arrays) [] zip = absurd zip
-matrices_are (array ∷ arrays) (m ∷ ms) zip = All-cons IsMatrix m ms zip.0.matrix (matrices_are arrays ms zip.1)
+matrices_are : (formats : List FormatDecl) (arrays : List ArrayDecl) (ms : List Matrix) → AllZip (IsArrayIn formats) arrays ms → All IsMatrix ms
+matrices_are formats [] [] zip = λ k d within. absurd (omega (arith, within))
+matrices_are formats [] (m ∷ ms) zip = absurd zip
+matrices_are formats (array ∷ arrays) [] zip = absurd zip
+matrices_are formats (array ∷ arrays) (m ∷ ms) zip = All-cons IsMatrix m ms zip.0.is.matrix (matrices_are formats arrays ms zip.1)
 
-pub are_of_job : (job : Checked) (ms : List Matrix) → AllZip IsArray job.arrays ms → AreOfJob job ms
-are_of_job job ms zip = record { sizes = sizes_are job.arrays ms zip; matrices_are = matrices_are job.arrays ms zip }
+pub are_of_job : (job : Checked) (ms : List Matrix) → AllZip (IsArrayIn job.formats) job.arrays ms → AreOfJob job ms
+are_of_job job ms zip = record { sizes = sizes_are job.formats job.arrays ms zip; matrices_are = matrices_are job.formats job.arrays ms zip }
 
 -- what an array begins with, by its matrix
 first_by : (entries : List ℕ → List Entry) (array : ArrayDecl) (file : Option (List ℕ)) → values_of (with_entries array (entries_from entries file)) ≡ first_values entries array file

@@ -1,3 +1,2 @@
 pub mod DueLemmas
-pub mod FirstLemmas
 pub mod PrintLemmas

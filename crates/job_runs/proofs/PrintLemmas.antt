@@ -1,90 +1,105 @@
--- The arrays of print lines, and the arrays behind a replay.
-use Rattle.std.proofs.Common.{◌≡◌, ℕ, zero, suc, ◌+◌, ◌*◌, ◌<◌, List, [], ◌∷◌, ◌++◌, Some, length, flat_map, take, get_or, set, slice_get, append-nil, refl, sym, ap, ◌∙◌, subst, ⊎_elim, arith}
+-- The arrays of print lines, from stores and after a replay.
+use Rattle.std.proofs.Common.{◌≡◌, ℕ, zero, suc, ◌+◌, ◌*◌, ◌<◌, ◌^◌, ◌==◌, Bool, true, false, List, [], ◌∷◌, ◌++◌, Some, length, map, flat_map, take, get_or, set, slice_get, append-nil, refl, sym, ap, ◌∙◌, subst, ⊎_elim, arith}
 use Rattle.std.specs.Prelude.{slice_set}
-use Rattle.std.specs.List.{All}
+use Rattle.std.specs.List.{All, range_with_len}
 use Rattle.std.proofs.Math.Nat.{mul-one}
-use Rattle.std.proofs.lemmas.Bool.{cases_eq}
+use Rattle.std.proofs.lemmas.Bool.{eq-eqb, eqb-true}
 use Rattle.std.proofs.lemmas.Grind.{flat_map-append}
-use Rattle.std.proofs.lemmas.List.{length-set, map-set, take_more}
+use Rattle.std.proofs.lemmas.List.{get_or-set_other, get_or-set_same, length-map, take_more}
 use Rattle.std.proofs.lemmas.List.Concat.{flat_map-cons}
+use Rattle.std.proofs.lemmas.List.FromFn.{fill_by_all, length-map-range_with_len}
 use Rattle.std.proofs.lemmas.Option.{slice_get_within}
+use Rattle.bern_base.specs.Matrix.{IsMatrix, element, values_of}
 use Rattle.bern_base.specs.declared.job.ArrayDecl.{ArrayDecl}
 use Rattle.bern_base.specs.declared.job.Checked.{Checked}
 use Rattle.bern_base.specs.declared.matrix.Matrix.{Matrix}
-use Rattle.mm_profile.specs.ArrayText.{array_text}
-use Rattle.job_model.specs.State.{State, values_in}
+use Rattle.format_model.specs.Grids.{HasElement, value_of_element}
+use Rattle.formats.specs.AnyStores.{any_grid, any_tree}
+use Rattle.formats.specs.declared.any_store.AnyStore.{AnyStore}
 use Rattle.job_model.specs.Accepted.{IsDenseAt}
-use Rattle.job_model.specs.Nests.{end_state}
-use Rattle.nest_walk.proofs.StateLemmas.{get_is}
-use Rattle.nest_walk.specs.Arrays.{AreArraysOf, IsArrayOf, IsWhole, state_of, values_of}
-use Rattle.nest_walk.specs.declared.arrays.ArrayValues.{ArrayValues}
-use Rattle.nest_walk.specs.declared.arrays.ArrayValues.TheVariants.{Dense}
+use Rattle.job_model.specs.Runnable.{is_dense, is_dense_format}
+use Rattle.job_model.specs.State.{State, values_in}
+use Rattle.mm_profile.specs.ArrayText.{array_text}
+use Rattle.node_prog.proofs.HomeLemmas.{item}
 use Rattle.rank_node.proofs.ListLemmas.{some_same}
-use Rattle.rank_product.proofs.ListLemmas.{all_at}
+use Rattle.rank_product.proofs.ListLemmas.{ComesFrom, all_at, map_at}
 use Rattle.rank_product.proofs.ShapeLemmas.{has_array}
-use Rattle.rank_product.specs.Runs.{first_state}
+use Rattle.rank_product.specs.Runs.{AreOfJob, declared_sizes, first_state, sizes_of}
 use Rattle.rank_product.specs.Shapes.{IsOver, IsProduct, cols_over, is_dense_level}
 use Rattle.rank_product.specs.declared.shape.ProductShape.{ProductShape}
-use Rattle.job_runs.specs.Texts.{arrays_text, declared_text, text_of}
+use Rattle.term_model.specs.Activity.{Entries}
+use Rattle.whole_laws.specs.HeldArrays.{HoldsArray, HoldsState}
+use Rattle.whole_laws.specs.HeldLaws.{HasCell}
+use Rattle.whole_laws.proofs.HeldLemmas.{held-arrays-have_cells}
+use Rattle.whole_turns.proofs.TurnLemmas.{dense_count}
+use Rattle.job_runs.specs.Printing.{replayed_values}
+use Rattle.job_runs.specs.Texts.{declared_text, text_of}
+use Rattle.whole_runs.proofs.StoreLemmas.{some_at}
 
 -- what the print line at a place is of
-pub print_at : (job : Checked) (items : List ℕ) (i : ℕ) → items ≡ job.prints → All (IsDenseAt job) job.prints → i < length items → IsDenseAt job (get_or items i 0)
-print_at job items i same prints within = let all : All (IsDenseAt job) items = subst (All (IsDenseAt job)) (sym same) prints in all i 0 within
+pub print_at : (job : Checked) (items : List ℕ) (i number : ℕ) → items ≡ job.prints → All (IsDenseAt job) job.prints → i < length items → number ≡ get_or items i number → IsDenseAt job number
+print_at job items i number same prints within is = let all : All (IsDenseAt job) items = subst (All (IsDenseAt job)) (sym same) prints in subst (IsDenseAt job) (sym is) (all i number within)
 
 pub print_below : (job : Checked) (number : ℕ) → IsDenseAt job number → number < length job.arrays
 print_below job number is = slice_get_within job.arrays number is.0 is.1
 
-pub print_held : (job : Checked) (arrays : List ArrayValues) (number : ℕ) → AreArraysOf job arrays → IsDenseAt job number → number < length arrays
-print_held job arrays number are is = omega (arith, are.long, print_below job number is)
-
-held : (job : Checked) (arrays : List ArrayValues) (number : ℕ) (values : ArrayValues) → AreArraysOf job arrays → IsDenseAt job number → values ≡ get_or arrays number values → slice_get arrays number ≡ Some values
-held job arrays number values are is at = get_is arrays number values (print_held job arrays number are is) at
-
-of_print : (job : Checked) (arrays : List ArrayValues) (number : ℕ) (values : ArrayValues) → AreArraysOf job arrays → (is : IsDenseAt job number) → values ≡ get_or arrays number values → IsArrayOf job is.0 values
-of_print job arrays number values are is at = are.each number is.0 values is.1 (held job arrays number values are is at)
-
-pub print_whole : (job : Checked) (arrays : List ArrayValues) (number : ℕ) (values : ArrayValues) → AreArraysOf job arrays → IsDenseAt job number → values ≡ get_or arrays number values → IsWhole values
-print_whole job arrays number values are is at = (of_print job arrays number values are is at).whole is.2
-
-pub print_size : (job : Checked) (arrays : List ArrayValues) (number : ℕ) (values : ArrayValues) (array : ArrayDecl) → AreArraysOf job arrays → IsDenseAt job number → values ≡ get_or arrays number values → slice_get job.arrays number ≡ Some array →
-    length (values_of values) ≡ array.rows * array.cols
-print_size job arrays number values array are is at declared =
-    (of_print job arrays number values are is at).size ∙ ap (λ (a : ArrayDecl). a.rows * a.cols) (some_same (sym is.1 ∙ declared))
-
-values_at : (arrays : List ArrayValues) (n : ℕ) (values : ArrayValues) → slice_get arrays n ≡ Some values → values_in (state_of arrays) n ≡ values_of values
-values_at [] n values is = absurd cc
-values_at (x ∷ xs) zero values is = let same : x ≡ values = cc in ap values_of same
-values_at (x ∷ xs) (suc n) values is = values_at xs n values is
-
 -- one print line more
-pub print_more : (job : Checked) (arrays : List ArrayValues) (items : List ℕ) (i : ℕ) (values : ArrayValues) (array : ArrayDecl) (old new : List ℕ) → AreArraysOf job arrays → IsDenseAt job (get_or items i 0) → i < length items →
-    values ≡ get_or arrays (get_or items i 0) values → slice_get job.arrays (get_or items i 0) ≡ Some array → old ≡ flat_map (text_of job.arrays (state_of arrays)) (take i items) →
-    new ≡ old ++ array_text array.name array.rows array.cols (values_of values) → new ≡ flat_map (text_of job.arrays (state_of arrays)) (take (i + 1) items)
-print_more job arrays items i values array old new are is within at declared before after =
-    let number = get_or items i 0 in
-    let f : ℕ → List ℕ = text_of job.arrays (state_of arrays) in
-    let here : f number ≡ array_text array.name array.rows array.cols (values_of values) =
-    ap (declared_text (state_of arrays) number) declared ∙ ap (array_text array.name array.rows array.cols) (values_at arrays number values (held job arrays number values are is at)) in
+pub print_more : (job : Checked) (state : State) (items : List ℕ) (i number : ℕ) (array : ArrayDecl) (values old new : List ℕ) → i < length items → number ≡ get_or items i number → slice_get job.arrays number ≡ Some array → values ≡ values_in state number →
+    old ≡ flat_map (text_of job.arrays state) (take i items) → new ≡ old ++ array_text array.name array.rows array.cols values → new ≡ flat_map (text_of job.arrays state) (take (i + 1) items)
+print_more job state items i number array values old new within is declared same before after =
+    let f : ℕ → List ℕ = text_of job.arrays state in
+    let here : f number ≡ array_text array.name array.rows array.cols values =
+    ap (declared_text state number) declared ∙ ap (array_text array.name array.rows array.cols) (sym same) in
     after
-    ∙ ap (λ t. t ++ array_text array.name array.rows array.cols (values_of values)) before
+    ∙ ap (λ t. t ++ array_text array.name array.rows array.cols values) before
     ∙ ap (λ t. flat_map f (take i items) ++ t) (sym here ∙ sym (append-nil (f number)) ∙ sym (flat_map-cons f number []))
     ∙ sym (flat_map-append f (take i items) (number ∷ []))
-    ∙ ap (flat_map f) (sym (take_more items i 0 within))
+    ∙ ap (λ n. flat_map f (take i items ++ n ∷ [])) is
+    ∙ ap (flat_map f) (sym (take_more items i number within))
 
-get_set_same : {X : Type 0} (xs : List X) (n : ℕ) (x : X) → n < length xs → slice_get (set xs n x) n ≡ Some x
-get_set_same [] n x below = absurd (omega (arith, below))
-get_set_same (y ∷ xs) zero x below = refl
-get_set_same (y ∷ xs) (suc n) x below = get_set_same xs n x (omega (arith, below))
+-- ---- from stores
 
-get_set_other : {X : Type 0} (xs : List X) (n k : ℕ) (x : X) → (k ≡ n → ⊥) → slice_get (set xs n x) k ≡ slice_get xs k
-get_set_other [] n k x apart = refl
-get_set_other (y ∷ xs) zero zero x apart = absurd (apart refl)
-get_set_other (y ∷ xs) zero (suc k) x apart = refl
-get_set_other (y ∷ xs) (suc n) zero x apart = refl
-get_set_other (y ∷ xs) (suc n) (suc k) x apart = get_set_other xs n k x (λ same. apart (ap (λ m. suc m) same))
+-- a dense array of the job, with the store that holds it
+record IsStored (job : Checked) (entries : Entries) (state : State) (number : ℕ) (array : ArrayDecl) (s : AnyStore) : Type 0 where
+  holds : HoldsArray job entries number (values_in state number) (any_tree s) (any_grid s)
+  area : holds.matrix.rows * holds.matrix.cols ≡ array.rows * array.cols
+  few : array.rows * array.cols < 2 ^ 32
+  long : length (values_in state number) ≡ array.rows * array.cols
+  cells : (n : ℕ) → n < array.rows * array.cols → HasCell (any_grid s) (values_in state number) n
+
+stored : (job : Checked) (entries : Entries) (state : State) (stores : List AnyStore) (number : ℕ) (array : ArrayDecl) (s : AnyStore) → HoldsState job entries state stores → IsDenseAt job number → slice_get job.arrays number ≡ Some array → slice_get stores number ≡ Some s →
+    IsStored job entries state number array s
+stored job entries state stores number array s held is declared at =
+    let h = held.each number s at in
+    let own : h.array ≡ array = some_same (sym h.array_is ∙ declared) in
+    let whole = ap is_dense_format (sym h.format_is) ∙ ap (is_dense job.formats) (some_same (sym h.array_is ∙ is.1)) ∙ is.2 in
+    let area : h.matrix.rows * h.matrix.cols ≡ array.rows * array.cols =
+    ap (λ r. r * h.matrix.cols) (h.rows ∙ ap (λ (a : ArrayDecl). a.rows) own) ∙ ap (λ c. array.rows * c) (h.cols ∙ ap (λ (a : ArrayDecl). a.cols) own) in record {
+      holds = h;
+      area = area;
+      few = omega (arith, h.can.few, area, dense_count h.format.shape (range_with_len 0 h.matrix.rows) h.matrix whole);
+      long = ap length h.values_are ∙ length-map-range_with_len (element h.matrix.cols h.matrix.entries) 0 (h.matrix.rows * h.matrix.cols) ∙ area;
+      cells = λ n low. held-arrays-have_cells job entries number (values_in state number) (any_tree s) (any_grid s) h whole n (subst (λ (a : ArrayDecl). n < a.rows * a.cols) (sym own) low);
+    }
+
+pub few_cells : (job : Checked) (entries : Entries) (state : State) (stores : List AnyStore) (number : ℕ) (array : ArrayDecl) → HoldsState job entries state stores → IsDenseAt job number → slice_get job.arrays number ≡ Some array → array.rows * array.cols < 2 ^ 32
+few_cells job entries state stores number array held is declared =
+    let s = some_at stores number (omega (arith, held.count, print_below job number is)) in (stored job entries state stores number array s.0 held is declared s.1).few
+
+pub has_cells : (job : Checked) (entries : Entries) (state : State) (stores : List AnyStore) (number : ℕ) (array : ArrayDecl) (s : AnyStore) → HoldsState job entries state stores → IsDenseAt job number → slice_get job.arrays number ≡ Some array → slice_get stores number ≡ Some s →
+    (n : ℕ) → n < array.rows * array.cols → HasElement (any_grid s) n
+has_cells job entries state stores number array s held is declared at n low = ((stored job entries state stores number array s held is declared at).cells n low).there
+
+pub cells_are : (job : Checked) (entries : Entries) (state : State) (stores : List AnyStore) (number : ℕ) (array : ArrayDecl) (s : AnyStore) → HoldsState job entries state stores → IsDenseAt job number → slice_get job.arrays number ≡ Some array → slice_get stores number ≡ Some s →
+    map (value_of_element (any_grid s)) (range_with_len 0 (array.rows * array.cols)) ≡ values_in state number
+cells_are job entries state stores number array s held is declared at =
+    let t = stored job entries state stores number array s held is declared at in
+    sym (fill_by_all (value_of_element (any_grid s)) (values_in state number) (array.rows * array.cols) 0 t.long (λ n low. sym (t.cells n low).value))
+
+-- ---- after a replay
 
 -- values of the target of a product
-target_size : (job : Checked) (p : ProductShape) (array : ArrayDecl) (values : List ℕ) → IsProduct job p → slice_get job.arrays p.target ≡ Some array → length values ≡ p.size → length values ≡ array.rows * array.cols
+pub target_size : (job : Checked) (p : ProductShape) (array : ArrayDecl) (values : List ℕ) → IsProduct job p → slice_get job.arrays p.target ≡ Some array → length values ≡ p.size → length values ≡ array.rows * array.cols
 target_size job p array values is declared long =
     let has = has_array is_dense_level 1 job.formats (slice_get job.arrays p.target) is.target in
     let own : has.array ≡ array = some_same (sym has.there ∙ declared) in
@@ -93,23 +108,28 @@ target_size job p array values is declared long =
     let one : array.cols ≡ 1 = over.cols ∙ ap (cols_over p.size) dims in
     long ∙ sym over.rows ∙ sym (mul-one array.rows) ∙ ap (λ c. array.rows * c) (sym one)
 
--- the target takes the values that its owners hold at the end
-pub replayed_arrays : (job : Checked) (p : ProductShape) (arrays now : List ArrayValues) (values : List ℕ) → IsProduct job p → AreArraysOf job arrays → length values ≡ p.size → now ≡ set arrays p.target (Dense values) → AreArraysOf job now
-replayed_arrays job p arrays now values is are long same = subst (AreArraysOf job) (sym same) (record {
-  long = length-set arrays p.target (Dense values) ∙ are.long;
-  each = λ number array found declared stands.
-      ⊎_elim
-      (λ here.
-      let at : slice_get job.arrays p.target ≡ Some array = subst (λ k. slice_get job.arrays k ≡ Some array) here declared in
-      let below : p.target < length arrays = omega (arith, are.long, slice_get_within job.arrays p.target array at) in
-      let value : Dense values ≡ found = some_same (sym (get_set_same arrays p.target (Dense values) below) ∙ subst (λ k. slice_get (set arrays p.target (Dense values)) k ≡ Some found) here stands) in
-      subst (IsArrayOf job array) value (record { sound = tt; size = target_size job p array values is at long; whole = λ dense. tt }))
-      (λ apart. are.each number array found declared (sym (get_set_other arrays p.target number (Dense values) apart) ∙ stands))
-      (cases_eq number p.target);
-})
+pub matrix_size : (job : Checked) (ms : List Matrix) (number : ℕ) (array : ArrayDecl) (m : Matrix) → AreOfJob job ms → slice_get job.arrays number ≡ Some array → slice_get ms number ≡ Some m → length (values_of m) ≡ array.rows * array.cols
+matrix_size job ms number array m are declared at =
+    let here : slice_get (map declared_sizes job.arrays) number ≡ Some (sizes_of m) = ap (λ l. slice_get l number) (sym are.sizes) ∙ mapped ms number m at in
+    let from : ComesFrom declared_sizes job.arrays number (sizes_of m) = map_at declared_sizes job.arrays number (sizes_of m) here in
+    let same : sizes_of m ≡ declared_sizes array = from.is ∙ ap declared_sizes (some_same (sym from.there ∙ declared)) in
+    length-map-range_with_len (element m.cols m.entries) 0 (m.rows * m.cols) ∙ ap (λ (s : ℕ × ℕ). s.0 * s.1) same
+  where
+    mapped : (ms : List Matrix) (number : ℕ) (m : Matrix) → slice_get ms number ≡ Some m → slice_get (map sizes_of ms) number ≡ Some (sizes_of m)
+    mapped [] number m at = absurd cc
+    mapped (n ∷ ms) zero m at = let same : n ≡ m = cc in ap (λ k. Some (sizes_of k)) same
+    mapped (n ∷ ms) (suc number) m at = mapped ms number m at
 
--- what is printed of them
-pub replayed_text : (job : Checked) (p : ProductShape) (ms : List Matrix) (arrays now : List ArrayValues) (values text : List ℕ) → end_state job (first_state ms) ≡ slice_set (first_state ms) p.target values → state_of arrays ≡ first_state ms →
-    now ≡ set arrays p.target (Dense values) → text ≡ arrays_text job (state_of now) → text ≡ arrays_text job (end_state job (first_state ms))
-replayed_text job p ms arrays now values text end first same is =
-    is ∙ ap (arrays_text job) (ap state_of same ∙ map-set values_of arrays p.target (Dense values) ∙ ap (λ (s : State). set s p.target values) first ∙ sym end)
+pub matrix_there : (job : Checked) (ms : List Matrix) (number : ℕ) → AreOfJob job ms → IsDenseAt job number → number < length ms
+matrix_there job ms number are is = omega (arith, print_below job number is, length-map ms sizes_of, length-map job.arrays declared_sizes, ap length are.sizes)
+
+-- what is printed of an array is what it has in the end
+pub replayed_are : (job : Checked) (p : ProductShape) (ms : List Matrix) (number : ℕ) (m : Matrix) (values : List ℕ) (replayed : Bool) → AreOfJob job ms → IsDenseAt job number → slice_get ms number ≡ Some m → replayed ≡ (number == p.target) →
+    replayed_values replayed values m ≡ values_in (set (first_state ms) p.target values) number
+replayed_are job p ms number m values true are is at told =
+    let same : number ≡ p.target = eqb-true number p.target (sym told) in
+    let low : p.target < length (first_state ms) = omega (arith, same, matrix_there job ms number are is, length-map ms values_of) in
+    sym (ap (λ n. get_or (set (first_state ms) p.target values) n []) same ∙ get_or-set_same (first_state ms) p.target values [] low)
+replayed_are job p ms number m values false are is at told =
+    let apart : number ≡ p.target → ⊥ = λ same. (let all : (number == p.target) ≡ true = eq-eqb number p.target same in absurd cc) in
+    sym (get_or-set_other (first_state ms) p.target number values [] apart ∙ item values_of ms number m [] at)

@@ -1,12 +1,11 @@
-//! The runs of a job from the matrices of its arrays to the printed text: by a plain walk of all points of its nests, and
-//! by the ranks of a replay.
+//! The runs of a job from what its arrays begin with to the printed text: by the passes of each turn over stores of whole arrays,
+//! and by the ranks of a replay.
 //!
-//! Arrays and ranks count from 0. There is a matrix for each array of a job, of its rows and columns; one of an array with
-//! `zero` has no entries.
+//! Arrays, places, nests, elements and ranks count from 0. There is a matrix for each array of a job, of its rows and columns; one
+//! of an array with `zero` has no entries.
 #![tactic(auto)]
 
 mod events;
-mod first;
 mod printing;
 mod running;
 

@@ -1,10 +1,10 @@
 -- The better plan, one after another, is the first one of least cost.
-use Rattle.std.proofs.Common.{◌≡◌, ◌∙◌, ℕ, zero, suc, ◌+◌, ◌-◌, ◌<◌, ◌≤◌, Bool, true, false, not, cond, List, [], ◌∷◌, ◌++◌, length, Option, Some, None, refl, sym, ap, subst, arith}
+use Rattle.std.proofs.Common.{◌≡◌, ◌∙◌, ℕ, zero, suc, ◌+◌, ◌-◌, ◌<◌, ◌≤◌, Bool, true, false, not, cond, List, [], ◌∷◌, ◌++◌, length, drop, get_or, Option, Some, None, refl, sym, ap, subst, arith}
 use Rattle.std.specs.Prelude.{nat_lt}
-use Rattle.std.specs.List.{All, range_with_len}
+use Rattle.std.specs.List.{All, Contains, range_with_len}
 use Rattle.std.proofs.lemmas.Bool.{lt-ltb, ltb-true, ltb-false}
 use Rattle.std.proofs.lemmas.List.{append_assoc, append-nil}
-use Rattle.std.proofs.lemmas.List.Elements.{All-append, All-cons, All-nil}
+use Rattle.std.proofs.lemmas.List.Elements.{All-append, All-cons, All-contains, All-nil, Contains-append_right}
 use Rattle.term_model.specs.declared.plan.PlanStep.{PlanStep}
 use Rattle.term_model.specs.Plans.{Query, plans, start, first_known, due_searches}
 use Rattle.loop_query.proofs.PlanLemmas.{some_plan_is_listed}
@@ -86,6 +86,41 @@ unfolding by_cost
 least_of q m best is =
     let (found, picked, first) = first_picked (cost q m) (plans q) (some_plan_is_listed q) in
     (found, is ∙ picked, record { before = first.before; later = first.later; listed = first.listed; price = first.price; dearer = first.dearer; least = first.least })
+
+-- there is such a plan
+pub some_least : (q : Query) (m : Measures) → (found : Priced) × IsFirstOfLeast q m found.steps found.cost
+some_least q m =
+    let (found, is, least) = least_of q m (pick (priced q m (start q) 1 (weight_of m (due_searches q (first_known q))) []) None (plans q)) refl in (found, least)
+
+first_in : {X : Type 0} (x : X) (xs : List X) → Contains (x ∷ xs) x
+first_in x xs = (0, omega arith, refl)
+
+-- a first one of least cost that is listed before another one: this one costs no less, and more than that
+apart : {X : Type 0} (g : X → ℕ) (c l k : List X) (s t x : X) → s ∷ l ≡ x ∷ c ++ t ∷ k → All (λ o. g s ≤ g o) l → All (λ o. g t < g o) (x ∷ c) → ⊥
+apart g c l k s t x same least dearer =
+    let head : s ≡ x = ap (λ xs. get_or xs 0 s) same in
+    let rest : l ≡ c ++ t ∷ k = ap (drop 1) same in
+    let more : g s ≤ g t = All-contains (λ o. g s ≤ g o) l t least (subst (λ xs. Contains xs t) (sym rest) (Contains-append_right c (t ∷ k) t (first_in t k))) in
+    let less : g t < g x = dearer 0 x (omega arith) in
+    omega (arith, more, less, ap g head)
+
+-- and there is one alone
+one_of : {X : Type 0} (g : X → ℕ) (b c l k : List X) (s t : X) → b ++ s ∷ l ≡ c ++ t ∷ k → All (λ o. g s < g o) b → All (λ o. g s ≤ g o) l → All (λ o. g t < g o) c → All (λ o. g t ≤ g o) k → s ≡ t
+one_of g [] [] l k s t same dearer least dearer_too least_too = ap (λ xs. get_or xs 0 s) same
+one_of g [] (x ∷ c) l k s t same dearer least dearer_too least_too = absurd (apart g c l k s t x same least dearer_too)
+one_of g (x ∷ b) [] l k s t same dearer least dearer_too least_too = absurd (apart g b k l t s x (sym same) least_too dearer)
+one_of g (x ∷ b) (y ∷ c) l k s t same dearer least dearer_too least_too =
+    one_of g b c l k s t (ap (drop 1) same) (λ i d below. dearer (suc i) d (omega (arith, below))) least (λ i d below. dearer_too (suc i) d (omega (arith, below))) least_too
+
+pub one_least : (q : Query) (m : Measures) (s t : List PlanStep) (a b : ℕ) → IsFirstOfLeast q m s a → IsFirstOfLeast q m t b → (s ≡ t) × (a ≡ b)
+one_least q m s t a b first second =
+    let same : s ≡ t =
+    one_of (cost q m) first.before second.before first.later second.later s t (sym first.listed ∙ second.listed)
+    (subst (λ n. All (λ o. n < cost q m o) first.before) first.price first.dearer)
+    (subst (λ n. All (λ o. n ≤ cost q m o) first.later) first.price first.least)
+    (subst (λ n. All (λ o. n < cost q m o) second.before) second.price second.dearer)
+    (subst (λ n. All (λ o. n ≤ cost q m o) second.later) second.price second.least) in
+    (same, first.price ∙ ap (cost q m) same ∙ sym second.price)
 
 -- ---- before the first step
 

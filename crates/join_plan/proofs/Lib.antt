@@ -1,3 +1,4 @@
+pub mod CheckLemmas
 pub mod WaitingLemmas
 pub mod TaskLemmas
 pub mod MarkLemmas

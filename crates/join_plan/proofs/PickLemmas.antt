@@ -13,6 +13,7 @@ use Rattle.std.specs.List.{range_with_len}
 use Rattle.std.proofs.Math.Nat.{zero-add, add-zero}
 use Rattle.smallvec.specs.SmallVec.{SmallVec}
 use Rattle.join_plan.specs.declared.best.Best.{Best}
+use Rattle.join_plan.specs.declared.limits.TheConstants.{MOST_SPENT}
 use Rattle.join_plan.specs.Picks.{IsCheap, IsSpent, Keeps, Priced, beats, better, following, most_many, pick, priced, seen}
 use Rattle.join_plan.proofs.SearchLemmas.{range_more}
 
@@ -156,7 +157,7 @@ none_better q m n k many spent prefix best dear = sym (pick_none (priced q m k m
 pub spent_small : (left many cost : ℕ) → left ≤ 4 → IsSpent left many cost → cost < 2 ^ 127
 spent_small left many cost few spent = at left few spent.total
   where
-    at : (n : ℕ) → n ≤ 4 → cost ≤ 268435456 * most_many n → cost < 2 ^ 127
+    at : (n : ℕ) → n ≤ 4 → cost ≤ MOST_SPENT * most_many n → cost < 2 ^ 127
     at zero few is = omega (arith, is)
     at (suc zero) few is = omega (arith, is)
     at (suc (suc zero)) few is = omega (arith, is)

@@ -1,11 +1,13 @@
 -- Keeping the better of two plans, one plan after another.
 use Rattle.std.specs.Prelude.{◌≡◌, ℕ, zero, suc, ◌+◌, ◌-◌, ◌*◌, ◌^◌, ◌<◌, ◌≤◌, nat_lt, Bool, true, if◌then◌else◌, List, [], ◌∷◌, ◌++◌, length, map, Option, Some, None}
 use Rattle.std.specs.List.{filter, flat_map}
+use Rattle.bern_base.specs.declared.limits.TheConstants.{MOST_WEIGHT}
 use Rattle.term_model.specs.declared.plan.PlanStep.{PlanStep}
 use Rattle.term_model.specs.Plans.{Known, Query, is_ready, next, plans_from}
 use Rattle.smallvec.specs.SmallVec.{SmallVec}
 use Rattle.join_plan.specs.Costs.{Measures, cost_from}
 use Rattle.join_plan.specs.declared.best.Best.{Best}
+use Rattle.join_plan.specs.declared.limits.TheConstants.{MOST_SPENT}
 
 -- the steps of a plan, and their cost
 pub record Priced : Type 0 where
@@ -43,12 +45,12 @@ following q n k steps = flat_map (λ s. map (λ rest. s ∷ rest) (plans_from q 
 
 -- the most bindings after all but so many of four steps
 abbrev pub most_many : ℕ → ℕ
-most_many left = 16777216 ^ (4 - left)
+most_many left = MOST_WEIGHT ^ (4 - left)
 
 -- what was spent for the first steps, and how many bindings come to the next one, stay below 2^124
 pub record IsSpent (left many cost : ℕ) : Type 0 where
   pub bindings : many ≤ most_many left
-  pub total : cost ≤ 268435456 * most_many left
+  pub total : cost ≤ MOST_SPENT * most_many left
 
 -- a plan of cost below 2^127, or none
 abbrev pub IsCheap : Option Priced → Type 0

@@ -119,5 +119,9 @@ nest_text job number None terms = []
 nest_text job number (Some nest) None = []
 nest_text job number (Some nest) (Some terms) = terms_text job number nest terms
 
+-- that of the nest of this number
+abbrev pub numbered_text : Checked → Plans → ℕ → List ℕ
+numbered_text job plans number = nest_text job number (slice_get job.nests number) (slice_get plans.nests number)
+
 abbrev pub plan_text : Checked → Plans → List ℕ
-plan_text job plans = flat_map (λ number. nest_text job number (slice_get job.nests number) (slice_get plans.nests number)) (range_with_len 0 (length job.nests))
+plan_text job plans = flat_map (numbered_text job plans) (range_with_len 0 (length job.nests))

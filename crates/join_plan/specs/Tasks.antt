@@ -1,5 +1,5 @@
 -- What the scheduler is given: the variables of a nest, one of its terms, and what was measured of the arrays.
-use Rattle.std.specs.Prelude.{◌≡◌, ℕ, ◌<◌, ◌≤◌, List, length, map}
+use Rattle.std.specs.Prelude.{◌≡◌, ℕ, ◌<◌, ◌≤◌, List, length, map, replicate}
 use Rattle.std.specs.List.{All}
 use Rattle.bern_base.specs.Affine.{AffineForm}
 use Rattle.bern_base.specs.declared.axes.Axis.{Axis}
@@ -10,7 +10,7 @@ use Rattle.bern_base.specs.declared.stats.LevelStat.{LevelStat}
 use Rattle.bern_base.specs.declared.stats.Stats.{Stats}
 use Rattle.job_model.specs.Runnable.{IsNear}
 use Rattle.term_model.specs.declared.term.Term.{Term}
-use Rattle.term_model.specs.Plans.{Query, SparseRef, sparse_at}
+use Rattle.term_model.specs.Plans.{Query, SparseRef, depth_of, sparse_at}
 use Rattle.term_model.specs.Queries.{levels_by, sparse_ref}
 use Rattle.join_plan.specs.Costs.{Measures, measures, stats_of}
 
@@ -21,6 +21,10 @@ pub record Task : Type 0 where
 
 abbrev pub query_in : Task → Query
 query_in task = record { variables = length task.vars; sparse = map (sparse_ref (levels_by task.stats)) task.term.sparse }
+
+-- a reference once for each of its levels
+abbrev pub tries_of : Task → ℕ → List ℕ
+tries_of task r = replicate (depth_of (query_in task) r) r
 
 abbrev pub measures_in : Task → Measures
 measures_in task = measures task.vars task.term task.stats

@@ -1,11 +1,12 @@
-ghost use Rattle.std.specs.Prelude.{◌≡◌, ℕ, ◌<◌, ◌≤◌, ◌+◌, ◌*◌, List, [], ◌∷◌, length, replicate, true};
+ghost use Rattle.std.specs.Prelude.{◌≡◌, ℕ, ◌<◌, ◌≤◌, ◌+◌, ◌*◌, List, [], ◌∷◌, length, true};
 ghost use Rattle.bern_base.specs.declared.limits.TheConstants.{MOST_WEIGHT};
-ghost use Rattle.term_model.specs.Plans.{Known, after_step, depth_of, due_searches, is_ready, searched, searches};
+ghost use Rattle.term_model.specs.Plans.{Known, after_step, due_searches, is_ready, searched, searches};
 ghost use Rattle.join_plan.specs.Costs.{weight_of};
 ghost use Rattle.join_plan.specs.Progress.{Knows, searched_by, tries_before};
 ghost use Rattle.join_plan.specs.Steps.{FewLevels, IsStepOf};
-ghost use Rattle.join_plan.specs.Tasks.{measures_in, query_in};
+ghost use Rattle.join_plan.specs.Tasks.{measures_in, query_in, tries_of};
 
+use crate::limits::MOST_SEARCHED;
 use crate::progress::{Progress, deepened, with_mark};
 use crate::task::Task;
 use crate::waiting::marked;
@@ -89,10 +90,9 @@ impl<'a> Task<'a> {
         requires there { reference < length self.now.term.sparse }
         requires few { FewLevels (query_in self.now) }
         ensures progress { (k : Known) → Knows k progress.now →
-            Knows (searched_by (query_in self.now) k (replicate (depth_of (query_in self.now) reference) reference)) result.progress }
+            Knows (searched_by (query_in self.now) k (tries_of self.now reference)) result.progress }
         ensures weight { (k : Known) → Knows k progress.now →
-            result.weight ≡
-            weight_of (measures_in self.now) (searches (query_in self.now) k (replicate (depth_of (query_in self.now) reference) reference)) }
+            result.weight ≡ weight_of (measures_in self.now) (searches (query_in self.now) k (tries_of self.now reference)) }
         ensures modest { result.weight ≤ 2 * MOST_WEIGHT }
     {
         let depth = self.depth(reference);
@@ -117,7 +117,7 @@ impl<'a> Task<'a> {
     pub(crate) fn search(&self, progress: &Progress) -> Searched
         ensures progress { (k : Known) → Knows k progress.now → Knows (searched (query_in self.now) k) result.progress }
         ensures weight { (k : Known) → Knows k progress.now → result.weight ≡ weight_of (measures_in self.now) (due_searches (query_in self.now) k) }
-        ensures modest { result.weight ≤ 8 * MOST_WEIGHT }
+        ensures modest { result.weight ≤ MOST_SEARCHED }
     {
         let references = self.references();
         let mut found = Searched {

@@ -6,6 +6,7 @@
 mod advance;
 mod best;
 mod candidates;
+mod checking;
 mod laws;
 mod limits;
 mod price;
@@ -18,6 +19,7 @@ mod task;
 mod text;
 mod waiting;
 
+pub use checking::is_plan;
 pub use laws::terms_can_be_scheduled;
 pub use limits::can_schedule;
 pub use scheduling::schedule;

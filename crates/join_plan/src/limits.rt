@@ -10,6 +10,15 @@ use bern_base::{
 };
 use loop_query::Term;
 
+/// Indices that a step is offered below one binding: of two levels, twice `MOST_WEIGHT`.
+pub(crate) const MOST_OFFERS: u64 = 33_554_432;
+
+/// What the searches after a step weigh together: those of two levels of four references, eight times `MOST_WEIGHT`.
+pub(crate) const MOST_SEARCHED: u64 = 134_217_728;
+
+/// What the first steps cost, for each binding that can come to the next one: sixteen times `MOST_WEIGHT`.
+pub(crate) const MOST_SPENT: u64 = 268_435_456;
+
 /// Whether a loop's bounds are within their limit.
 fn is_near(span: &Span) -> bool
     ensures { result ≡ true → IsNear span.now }

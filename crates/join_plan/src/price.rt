@@ -5,8 +5,10 @@ ghost use Rattle.join_plan.specs.Progress.{Knows};
 ghost use Rattle.join_plan.specs.Steps.{IsStepOf};
 ghost use Rattle.join_plan.specs.Tasks.{measures_in};
 
+use crate::limits::MOST_OFFERS;
 use crate::progress::Progress;
 use crate::task::Task;
+use bern_base::MOST_WEIGHT;
 use loop_query::PlanStep;
 
 impl<'a> Task<'a> {
@@ -14,7 +16,7 @@ impl<'a> Task<'a> {
     pub(crate) fn offers(&self, progress: &Progress, step: PlanStep) -> u64
         requires { IsStepOf (length self.now.term.sparse) step }
         ensures offers { (k : Known) → Knows k progress.now → result ≡ offers (measures_in self.now) k step }
-        ensures few { result ≤ 33554432 }
+        ensures few { result ≤ MOST_OFFERS }
     {
         match step {
             PlanStep::Range { var } => self.size(var),
@@ -40,7 +42,7 @@ impl<'a> Task<'a> {
     pub(crate) fn keeps(&self, progress: &Progress, step: PlanStep) -> u64
         requires { IsStepOf (length self.now.term.sparse) step }
         ensures keeps { (k : Known) → Knows k progress.now → result ≡ keeps (measures_in self.now) k step }
-        ensures few { result ≤ 16777216 }
+        ensures few { result ≤ MOST_WEIGHT }
     {
         match step {
             PlanStep::Range { var } => self.size(var),

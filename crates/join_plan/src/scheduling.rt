@@ -24,7 +24,7 @@ struct Found {
 }
 
 /// Before the first search: variables that the nest does not have count as bound.
-fn beginning(task: &Task<'_>) -> Progress
+pub(crate) fn beginning(task: &Task<'_>) -> Progress
     ensures { Knows (first_known (query_in task.now)) result }
 {
     let variables = task.vars.len();

@@ -1,10 +1,9 @@
-ghost use Rattle.std.specs.Prelude.{◌≡◌, ℕ, ◌+◌, ◌<◌, ◌≤◌, [], ◌∷◌, length};
+ghost use Rattle.std.specs.Prelude.{◌≡◌, ◌+◌, ◌<◌, [], ◌∷◌, length};
 ghost use Rattle.std.specs.List.{All};
-ghost use Rattle.term_model.specs.Plans.{Known, candidates, plans_from};
-ghost use Rattle.join_plan.specs.Picks.{HasRoom, IsSpent, Keeps};
-ghost use Rattle.join_plan.specs.Progress.{Knows};
-ghost use Rattle.join_plan.specs.Searches.{PicksAfter, all_drives, all_merges, merges_with, plans_by};
-ghost use Rattle.join_plan.specs.Steps.{FewLevels, IsStepOf};
+ghost use Rattle.term_model.specs.Plans.{candidates, plans_from};
+ghost use Rattle.join_plan.specs.Picks.{Keeps};
+ghost use Rattle.join_plan.specs.Searches.{CanTry, TakesBest, all_drives, all_merges, merges_with, plans_by};
+ghost use Rattle.join_plan.specs.Steps.{IsStepOf};
 ghost use Rattle.join_plan.specs.Tasks.{query_in};
 
 use crate::best::Best;
@@ -25,13 +24,10 @@ pub(crate) fn explore(
     prefix: &mut SmallVec<PlanStep, 4>,
     best: &mut Best,
 )
-    requires left { left ≤ 4 }
-    requires few { FewLevels (query_in task.now) }
-    requires room { HasRoom prefix.old best.old left }
-    requires spent { IsSpent left spent.many spent.cost }
+    requires can { CanTry task.now left spent prefix.old best.old }
     ensures keeps { Keeps prefix.old best.old prefix.new best.new }
-    ensures best { (k : Known) → Knows k progress.now →
-        PicksAfter task.now k spent prefix.old best.old best.new (plans_from (query_in task.now) left k) }
+    ensures best { TakesBest task.now progress.now spent prefix.old best.old best.new
+        (λ k. plans_from (query_in task.now) left k) }
 {
     if !best.is_beaten_by(spent.cost) {
         return;
@@ -55,13 +51,10 @@ fn follow(
     prefix: &mut SmallVec<PlanStep, 4>,
     best: &mut Best,
 )
-    requires left { left < 4 }
-    requires few { FewLevels (query_in task.now) }
-    requires room { HasRoom prefix.old best.old (left + 1) }
-    requires spent { IsSpent (left + 1) spent.many spent.cost }
+    requires can { CanTry task.now (left + 1) spent prefix.old best.old }
     ensures keeps { Keeps prefix.old best.old prefix.new best.new }
-    ensures best { (k : Known) → Knows k progress.now →
-        PicksAfter task.now k spent prefix.old best.old best.new (plans_by task.now left k (candidates (query_in task.now) k)) }
+    ensures best { TakesBest task.now progress.now spent prefix.old best.old best.new
+        (λ k. plans_by task.now left k (candidates (query_in task.now) k)) }
 {
     attempt_all(task, progress, left, spent, &ranges(), prefix, best);
     follow_drives(task, progress, left, spent, prefix, best);
@@ -78,13 +71,10 @@ fn follow_drives(
     prefix: &mut SmallVec<PlanStep, 4>,
     best: &mut Best,
 )
-    requires left { left < 4 }
-    requires few { FewLevels (query_in task.now) }
-    requires room { HasRoom prefix.old best.old (left + 1) }
-    requires spent { IsSpent (left + 1) spent.many spent.cost }
+    requires can { CanTry task.now (left + 1) spent prefix.old best.old }
     ensures keeps { Keeps prefix.old best.old prefix.new best.new }
-    ensures best { (k : Known) → Knows k progress.now →
-        PicksAfter task.now k spent prefix.old best.old best.new (plans_by task.now left k (all_drives task.now k)) }
+    ensures best { TakesBest task.now progress.now spent prefix.old best.old best.new
+        (λ k. plans_by task.now left k (all_drives task.now k)) }
 {
     let references = task.references();
     let mut reference = 0;
@@ -105,13 +95,10 @@ fn follow_merges(
     prefix: &mut SmallVec<PlanStep, 4>,
     best: &mut Best,
 )
-    requires left { left < 4 }
-    requires few { FewLevels (query_in task.now) }
-    requires room { HasRoom prefix.old best.old (left + 1) }
-    requires spent { IsSpent (left + 1) spent.many spent.cost }
+    requires can { CanTry task.now (left + 1) spent prefix.old best.old }
     ensures keeps { Keeps prefix.old best.old prefix.new best.new }
-    ensures best { (k : Known) → Knows k progress.now →
-        PicksAfter task.now k spent prefix.old best.old best.new (plans_by task.now left k (all_merges task.now k)) }
+    ensures best { TakesBest task.now progress.now spent prefix.old best.old best.new
+        (λ k. plans_by task.now left k (all_merges task.now k)) }
 {
     let references = task.references();
     let mut reference = 0;
@@ -132,14 +119,11 @@ fn follow_partners(
     prefix: &mut SmallVec<PlanStep, 4>,
     best: &mut Best,
 )
-    requires left { left < 4 }
     requires reference { (reference < 4) × (reference < length task.now.term.sparse) }
-    requires few { FewLevels (query_in task.now) }
-    requires room { HasRoom prefix.old best.old (left + 1) }
-    requires spent { IsSpent (left + 1) spent.many spent.cost }
+    requires can { CanTry task.now (left + 1) spent prefix.old best.old }
     ensures keeps { Keeps prefix.old best.old prefix.new best.new }
-    ensures best { (k : Known) → Knows k progress.now →
-        PicksAfter task.now k spent prefix.old best.old best.new (plans_by task.now left k (merges_with task.now k reference)) }
+    ensures best { TakesBest task.now progress.now spent prefix.old best.old best.new
+        (λ k. plans_by task.now left k (merges_with task.now k reference)) }
 {
     let references = task.references();
     let mut partner = 0;
@@ -161,14 +145,11 @@ fn attempt_all(
     prefix: &mut SmallVec<PlanStep, 4>,
     best: &mut Best,
 )
-    requires left { left < 4 }
     requires near { All (IsStepOf (length task.now.term.sparse)) steps.now }
-    requires few { FewLevels (query_in task.now) }
-    requires room { HasRoom prefix.old best.old (left + 1) }
-    requires spent { IsSpent (left + 1) spent.many spent.cost }
+    requires can { CanTry task.now (left + 1) spent prefix.old best.old }
     ensures keeps { Keeps prefix.old best.old prefix.new best.new }
-    ensures best { (k : Known) → Knows k progress.now →
-        PicksAfter task.now k spent prefix.old best.old best.new (plans_by task.now left k steps.now) }
+    ensures best { TakesBest task.now progress.now spent prefix.old best.old best.new
+        (λ k. plans_by task.now left k steps.now) }
 {
     for step in steps {
         attempt(task, progress, left, spent, *step, prefix, best);
@@ -186,14 +167,11 @@ fn attempt(
     prefix: &mut SmallVec<PlanStep, 4>,
     best: &mut Best,
 )
-    requires left { left < 4 }
     requires near { IsStepOf (length task.now.term.sparse) step }
-    requires few { FewLevels (query_in task.now) }
-    requires room { HasRoom prefix.old best.old (left + 1) }
-    requires spent { IsSpent (left + 1) spent.many spent.cost }
+    requires can { CanTry task.now (left + 1) spent prefix.old best.old }
     ensures keeps { Keeps prefix.old best.old prefix.new best.new }
-    ensures best { (k : Known) → Knows k progress.now →
-        PicksAfter task.now k spent prefix.old best.old best.new (plans_by task.now left k (step ∷ [])) }
+    ensures best { TakesBest task.now progress.now spent prefix.old best.old best.new
+        (λ k. plans_by task.now left k (step ∷ [])) }
 {
     if !task.is_ready(progress, step) {
         return;

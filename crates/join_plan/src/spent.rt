@@ -1,6 +1,9 @@
 ghost use Rattle.std.specs.Prelude.{◌≡◌, ◌+◌, ◌-◌, ◌*◌, ◌<◌, ◌≤◌};
 ghost use Rattle.join_plan.specs.Picks.{IsSpent};
 
+use crate::limits::{MOST_OFFERS, MOST_SEARCHED};
+use bern_base::MOST_WEIGHT;
+
 /// What the first steps of a plan cost, and how many bindings come to the next one.
 #[derive(Clone, Copy)]
 pub(crate) struct Spent {
@@ -21,9 +24,9 @@ impl Spent {
     pub(crate) fn pay(self, price: Price, left: u32) -> Spent
         requires left { left < 4 }
         requires spent { IsSpent (left + 1) self.many self.cost }
-        requires offers { price.offers ≤ 33554432 }
-        requires keeps { price.keeps ≤ 16777216 }
-        requires weight { price.weight ≤ 134217728 }
+        requires offers { price.offers ≤ MOST_OFFERS }
+        requires keeps { price.keeps ≤ MOST_WEIGHT }
+        requires weight { price.weight ≤ MOST_SEARCHED }
         ensures many { result.many ≡ self.many * price.keeps }
         ensures cost { result.cost ≡ self.cost + (self.many * price.offers + self.many * price.keeps * price.weight) }
         ensures spent { IsSpent left result.many result.cost }

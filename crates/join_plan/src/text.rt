@@ -1,7 +1,7 @@
 ghost use Rattle.std.specs.Prelude.{◌≡◌, ◌++◌, ◌<◌, ◌≤◌, ◌+◌, ◌-◌, ◌^◌, ℕ, if◌then◌else◌, List, [], OnOk, IfOk, drop, length, slice_get};
 ghost use Rattle.std.specs.List.{flat_map, range_with_len};
 ghost use Rattle.std.specs.Option.{option_copied};
-ghost use Rattle.join_plan.specs.PlanText.{array_name, axis_name, axis_of_ref, bound_after, flat_variables, level_name, nest_text, plan_text, reference_name, step_line, steps_text, term_line, terms_text, unused, variable_word};
+ghost use Rattle.join_plan.specs.PlanText.{array_name, axis_name, axis_of_ref, bound_after, flat_variables, level_name, numbered_text, plan_text, reference_name, step_line, steps_text, term_line, terms_text, unused, variable_word};
 ghost use Rattle.join_plan.specs.Progress.{Marks};
 ghost use Rattle.term_model.specs.Plans.{waiting};
 
@@ -252,7 +252,7 @@ fn append_terms(
 fn append_nest(job: &Checked, plans: &Plans, number: usize, out: &mut Text) -> Result<(), NoMemory>
     requires there { number < length job.now.nests }
     requires fits { number + 1 < 2 ^ 64 }
-    ensures { OnOk result (out.new ≡ out.old ++ nest_text job.now number (slice_get job.now.nests number) (slice_get plans.now.nests number)) }
+    ensures { OnOk result (out.new ≡ out.old ++ numbered_text job.now plans.now number) }
 {
     let nest = job.nests.at(number);
     match plans.nests.get(number) {

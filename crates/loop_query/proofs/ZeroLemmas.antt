@@ -43,7 +43,7 @@ write_keeps job entries nest target state point zeros array sparse n unstored =
     absurd cc in
     ap (λ values. get_or values n 0) (get_or-set_other state nest.target.array array _ [] apart) ∙ zeros array sparse n unstored
 
-nest_keeps : (job : Checked) (entries : Entries) (nest : Nest) → IsNestOf job nest → (state : State) → SparseHoldZeros job entries state → SparseHoldZeros job entries (after_nest job.arrays state nest)
+pub nest_keeps : (job : Checked) (entries : Entries) (nest : Nest) → IsNestOf job nest → (state : State) → SparseHoldZeros job entries state → SparseHoldZeros job entries (after_nest job.arrays state nest)
 nest_keeps job entries nest is state zeros = fold_keeps (SparseHoldZeros job entries) (at_point job.arrays nest) (write_keeps job entries nest is.target) (points nest) state zeros
 
 -- what stands in a list has what all have
@@ -71,7 +71,7 @@ stands rows cols e inside =
     rw (div-mul-add e.row cols e.col inside.1, mod-mul-add e.row cols e.col inside.1) (rw (eq-eqb e.row e.row refl, eq-eqb e.col e.col refl) refl)
 
 -- an element is 0 where each entry there is
-element_zero : (cols : ℕ) (entries : List Entry) (n : ℕ) → All (λ e. number cols e ≡ n → e.value ≡ 0) entries → element cols entries n ≡ 0
+pub element_zero : (cols : ℕ) (entries : List Entry) (n : ℕ) → All (λ e. number cols e ≡ n → e.value ≡ 0) entries → element cols entries n ≡ 0
 element_zero cols entries n none =
     ap (λ s. s % 2 ^ 64) (sum_by_none (λ e. if number cols e == n then e.value else 0) entries (λ k d below. by_test (get_or entries k d) (number cols (get_or entries k d) == n) refl (none k d below)))
   where
@@ -112,7 +112,7 @@ each_fails p entries none = λ k d below. by_test k d below (p (get_or entries k
     by_test k d below false is = is
 
 -- an entry at an element that is not stored has the value 0
-unstored_zero : (s : Shape) (rows cols : ℕ) (entries : List Entry) (n : ℕ) → All (IsInside rows cols) entries → has_astray s entries ≡ false → is_stored s entries (n / cols) (n % cols) ≡ false →
+pub unstored_zero : (s : Shape) (rows cols : ℕ) (entries : List Entry) (n : ℕ) → All (IsInside rows cols) entries → has_astray s entries ≡ false → is_stored s entries (n / cols) (n % cols) ≡ false →
     All (λ e. number cols e ≡ n → e.value ≡ 0) entries
 unstored_zero shape.DenseOne rows cols entries n inside straight unstored = absurd cc
 unstored_zero (shape.DenseDense outer) rows cols entries n inside straight unstored = absurd cc

@@ -7,7 +7,9 @@ mod bounds;
 mod due;
 mod home;
 mod job_route;
+mod run_line;
 mod subscripts;
 mod visit;
 
+pub use run_line::RunLine;
 pub use visit::Visit;

@@ -4,7 +4,7 @@ use Rattle.bern_base.specs.declared.letter.Letter.TheVariants.{Request, Values}
 use Rattle.bern_base.specs.declared.matrix.Entry.{Entry}
 use Rattle.placement.specs.Placement.{Triple, owner_of, local_of, owned_indices}
 use Rattle.rank_model.specs.Products.{Run, answer, answer_part, end_state, part_values, receive, schedule, send, state_before, used}
-use Rattle.rank_model.specs.Schedules.{Schedule, request, scripts_of, values_letter}
+use Rattle.turn_model.specs.Schedules.{request, values_letter}
 use Rattle.rank_scripts.specs.Scripts.{book}
 
 abbrev entry_at : ℕ → ℕ → ℕ → Entry
@@ -97,15 +97,3 @@ held_before = refl
 held_at_the_end : part_values run (end_state run) 2 1 ≡ 57 ∷ []
 unfolding owned_indices
 held_at_the_end = refl
-
--- three turns, in the first and the last of which rank 0 has a value for rank 1: each letter names its turn
-abbrev three_turns : Schedule
-three_turns = record {
-  ranks = 2;
-  turns = 3;
-  needs = λ p q. [];
-  values = λ turn p q. if turn == 1 then [] else (turn + 40) ∷ [];
-}
-
-posted_in_turns : book (scripts_of three_turns) 0 1 ≡ Request (record { sets = [] }) ∷ Values 0 (40 ∷ []) ∷ Values 2 (42 ∷ []) ∷ []
-posted_in_turns = refl

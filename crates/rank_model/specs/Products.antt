@@ -1,16 +1,17 @@
 -- A run of one product: one turn of T[v] += S[v,w] * D[w] over the whole extent of v and w, on some ranks.
-use Rattle.std.specs.Prelude.{◌≡◌, ◌≢◌, ℕ, ◌+◌, ◌*◌, ◌%◌, ◌^◌, ◌<◌, ◌≤◌, ◌==◌, Bool, true, ◌&&◌, not, if◌then◌else◌, List, length, filter, map, slice_set}
+use Rattle.std.specs.Prelude.{◌≡◌, ◌≢◌, ℕ, ◌+◌, ◌*◌, ◌%◌, ◌^◌, ◌<◌, ◌≤◌, ◌==◌, Bool, true, ◌&&◌, not, if◌then◌else◌, List, [], ◌∷◌, length, filter, map, slice_set}
 use Rattle.std.specs.List.{All, range_with_len, list_any, sum_by}
 use Rattle.bern_base.specs.Matrix.{IsInside}
 use Rattle.bern_base.specs.declared.axes.Axis.TheVariants.{Row}
 use Rattle.bern_base.specs.declared.letter.Letter.{Letter}
 use Rattle.bern_base.specs.declared.limits.TheConstants.{MOST_RANKS, MOST_SIDE}
+use Rattle.bern_base.specs.declared.letter.NeedSet.{NeedSet}
 use Rattle.bern_base.specs.declared.matrix.Entry.{Entry}
 use Rattle.job_model.specs.State.{State, values_in, read}
 use Rattle.placement.specs.Part.{localized}
 use Rattle.placement.specs.Placement.{Triple, IsPlacement, owner_of, owned_indices}
 use Rattle.rank_scripts.specs.Scripts.{Scripts}
-use Rattle.rank_model.specs.Schedules.{Schedule, need_sets, scripts_of, values_at}
+use Rattle.turn_model.specs.Schedules.{Schedule, scripts_of, values_at}
 
 -- what contracts see of such a run: the ranks, the place of the extent, the numbers of T, S and D among the arrays, the
 -- stored elements of S, which arrays are stored whole, which elements each rank holds of such an array, by their
@@ -97,6 +98,11 @@ end_value run v = (read run.first run.target v + sum_by (term_at run v) run.entr
 -- the state at the end: T has grown by its sums over the stored elements, and all else is as before
 abbrev pub end_state : Run → State
 end_state run = slice_set run.first run.target (map (end_value run) (range_with_len 0 (extent_of run)))
+
+-- a set of needs, and none where there are no elements
+abbrev pub need_sets : ℕ → ℕ → ℕ → List ℕ → List NeedSet
+need_sets nest owner array [] = []
+need_sets nest owner array (w ∷ ws) = record { nest = nest; owner = owner; array = array; elements = w ∷ ws } ∷ []
 
 -- the schedule of the run: nest 0 alone, done in one turn, in which D alone is read of other ranks
 abbrev pub schedule : Run → Schedule

@@ -15,7 +15,7 @@ use Rattle.rank_scripts.specs.Nodes.{has_all}
 use Rattle.rank_scripts.proofs.RankLemmas.{all_below_at}
 use Rattle.rank_scripts.proofs.RoundLemmas.{book-turns, book-own}
 use Rattle.rank_model.specs.Products.{Run, answer, is_received, reads, receive, scripts, schedule}
-use Rattle.rank_model.specs.Schedules.{request, rounds, some_values, values_letter}
+use Rattle.turn_model.specs.Schedules.{request, rounds, some_values, values_letter}
 use Rattle.rank_node.specs.declared.stage.Stage.TheVariants.{Outer}
 use Rattle.rank_node.specs.declared.node.Node.{Node}
 use Rattle.rank_node.specs.Letters.{letter_values, turn_values}

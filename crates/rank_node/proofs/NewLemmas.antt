@@ -16,7 +16,7 @@ use Rattle.rank_scripts.specs.Rounds.{posts_between, acts_of_all}
 use Rattle.rank_scripts.proofs.NodeLemmas.{fresh_fit}
 use Rattle.rank_scripts.proofs.BookLemmas.{sent-fresh}
 use Rattle.rank_model.specs.Products.{IsRun, Run, answer_part, scripts, schedule}
-use Rattle.rank_model.specs.Schedules.{rounds}
+use Rattle.turn_model.specs.Schedules.{rounds}
 use Rattle.rank_node.specs.declared.node.Node.{Node}
 use Rattle.rank_node.specs.declared.stage.Stage.TheVariants.{Inspect}
 use Rattle.rank_node.specs.declared.stage.Tally.{Tally}

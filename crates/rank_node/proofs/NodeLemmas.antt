@@ -20,7 +20,7 @@ use Rattle.rank_scripts.proofs.NodeLemmas.{worked_fit, posted_fit, took_fit, res
 use Rattle.rank_scripts.proofs.BookLemmas.{sent-posted, sent-posted_other, sent-split, next-at_post}
 use Rattle.rank_scripts.proofs.RoundLemmas.{book-turns, book-own}
 use Rattle.rank_model.specs.Products.{IsRun, Run, answer, is_received, scripts, send, schedule}
-use Rattle.rank_model.specs.Schedules.{request, rounds, some_values, values_in, values_letter}
+use Rattle.turn_model.specs.Schedules.{request, rounds, some_values, values_in, values_letter}
 use Rattle.rank_node.specs.declared.stage.Stage.{Stage}
 use Rattle.rank_node.specs.declared.stage.Tally.{Tally}
 use Rattle.rank_node.specs.Positions.{todo_of, passed_of, position_of, GoesTo}

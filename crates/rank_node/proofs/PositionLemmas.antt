@@ -13,8 +13,8 @@ use Rattle.rank_scripts.proofs.RankLemmas.{all_below_at, all_below_from}
 use Rattle.rank_scripts.proofs.RoundLemmas.{letters_of-own, book-turns}
 use Rattle.rank_scripts.proofs.WaitLemmas.{posts_to-until}
 use Rattle.job_model.specs.State.{read}
-use Rattle.rank_model.specs.Products.{Run, receive, scripts, send, schedule}
-use Rattle.rank_model.specs.Schedules.{need_sets, request, rounds, some_values, values_in, values_letter}
+use Rattle.rank_model.specs.Products.{Run, need_sets, receive, schedule, scripts, send}
+use Rattle.turn_model.specs.Schedules.{request, rounds, some_values, values_in, values_letter}
 use Rattle.rank_node.specs.declared.stage.Stage.{Stage}
 use Rattle.rank_node.specs.declared.stage.Stage.TheVariants.{Request, AwaitRequests, Values, Inner, AwaitValues, Outer}
 use Rattle.rank_node.specs.Letters.{asked_elements, asked_in}

@@ -11,7 +11,7 @@ use Rattle.placement.specs.Placement.{Triple, IsPlacement, owner_of, local_of, o
 use Rattle.placement.specs.PlacementLaws.{local-below, global-owner-local}
 use Rattle.placement.proofs.IndexLemmas.{length-owned_indices, get_or-owned_indices}
 use Rattle.rank_model.specs.Products.{Run, answer, is_received, receive}
-use Rattle.rank_model.specs.Schedules.{some_values}
+use Rattle.turn_model.specs.Schedules.{some_values}
 use Rattle.rank_node.specs.Sets.{own_values}
 
 -- what is asked for lies within the extent

@@ -3,7 +3,7 @@ use Rattle.std.specs.Prelude.{ℕ, List, [], ◌∷◌}
 use Rattle.bern_base.specs.declared.letter.Letter.{Letter}
 use Rattle.bern_base.specs.declared.letter.Letter.TheVariants.{Request, Values}
 use Rattle.bern_base.specs.declared.letter.NeedSet.{NeedSet}
-use Rattle.rank_model.specs.Schedules.{need_sets}
+use Rattle.rank_model.specs.Products.{need_sets}
 
 -- the elements of the first set, if there is one
 abbrev pub asked_elements : List NeedSet → List ℕ

@@ -8,7 +8,7 @@ use Rattle.rank_scripts.specs.Scripts.{Scripts, book, IsNextOf}
 use Rattle.rank_scripts.specs.Nodes.{worked, posted, took, sent, NodeFit}
 use Rattle.rank_scripts.specs.Nodes as scripted
 use Rattle.rank_model.specs.Products.{IsRun, Run, answer_part, part_values, scripts}
-use Rattle.rank_model.specs.Schedules.{values_in}
+use Rattle.turn_model.specs.Schedules.{values_in}
 use Rattle.rank_node.specs.declared.stage.Tally.{Tally}
 use Rattle.rank_node.specs.declared.node.Node.{Node}
 use Rattle.rank_node.specs.Positions.{passed_of, todo_of, state_of, is_inspected, is_summed, HasItsLetter}

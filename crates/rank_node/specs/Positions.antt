@@ -6,7 +6,7 @@ use Rattle.rank_scripts.specs.Nodes.{Position, has_all, past_waits}
 use Rattle.rank_scripts.specs.Rounds.{due_of, posts_between, request_round, turn_round}
 use Rattle.job_model.specs.State.{State}
 use Rattle.rank_model.specs.Products.{Run, end_state, scripts, send, state_before, schedule}
-use Rattle.rank_model.specs.Schedules.{request, values_in, values_letter}
+use Rattle.turn_model.specs.Schedules.{request, values_in, values_letter}
 use Rattle.rank_node.specs.declared.stage.Stage.{Stage}
 use Rattle.rank_node.specs.declared.stage.Stage.TheVariants.{Inspect, Request, AwaitRequests, Values, Inner, AwaitValues, Outer, Done}
 use Rattle.rank_node.specs.declared.stage.Want.{Want}

@@ -4,7 +4,7 @@ ghost use Rattle.rank_scripts.specs.Acts.{at_work, at_post, at_end};
 ghost use Rattle.rank_scripts.specs.Scripts.{book, IsFrontOf, IsNextOf};
 ghost use Rattle.rank_scripts.specs.Nodes.{fresh, sent};
 ghost use Rattle.rank_model.specs.Products.{IsRun, Run, end_state, part_values, scripts, state_before, schedule};
-ghost use Rattle.rank_model.specs.Schedules.{request, values_in as letter_size, values_letter};
+ghost use Rattle.turn_model.specs.Schedules.{request, values_in as letter_size, values_letter};
 ghost use Rattle.rank_node.specs.Jobs.{IsJobOf, ArePartsOf};
 ghost use Rattle.rank_node.specs.Positions.{want_of, state_of, Posts};
 ghost use Rattle.rank_node.specs.Waits.{AreKnown};

@@ -19,7 +19,7 @@ const VECTOR: &[u8] =
 
 const DUE: &[u8] = b"%%MatrixMarket matrix array integer general\n% Y\n3 1\n5\n0\n10\n";
 
-fn file(alloc: Global, name: &[u8], bytes: &[u8]) -> Result<(Text, Text), NoMemory> {
+pub(crate) fn file(alloc: Global, name: &[u8], bytes: &[u8]) -> Result<(Text, Text), NoMemory> {
     Ok((
         Text::from_bytes(alloc, name)?,
         Text::from_bytes(alloc, bytes)?,
@@ -38,7 +38,7 @@ fn shelf(alloc: Global, fails: Items<(Text, u64)>) -> Result<MemShelf, Fail> {
     Err(Fail::from("a name stands twice"))
 }
 
-fn words(alloc: Global, all: &[&str]) -> Result<Vec<String>, NoMemory> {
+pub(crate) fn words(alloc: Global, all: &[&str]) -> Result<Vec<String>, NoMemory> {
     let mut words = Vec::new(alloc);
     for word in all {
         words.push(String::from_str(alloc, word)?)?;
@@ -48,13 +48,13 @@ fn words(alloc: Global, all: &[&str]) -> Result<Vec<String>, NoMemory> {
 
 /// What a command answers: its status, and what stands on both streams.
 #[derive(Drop)]
-struct Outcome {
-    status: u8,
-    out: MemSink,
-    err: MemSink,
+pub(crate) struct Outcome {
+    pub(crate) status: u8,
+    pub(crate) out: MemSink,
+    pub(crate) err: MemSink,
 }
 
-fn counted<L: Ledger>(
+pub(crate) fn counted<L: Ledger>(
     alloc: Global,
     words: &[String],
     mut shelf: MemShelf,

@@ -5,5 +5,7 @@
 #[cfg(test)]
 mod commands;
 mod laws;
+#[cfg(test)]
+mod plans;
 
 pub use laws::{over_a_sure_shelf, over_sure_sinks};

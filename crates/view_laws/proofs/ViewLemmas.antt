@@ -60,7 +60,7 @@ only_one : (levels : List Level) → length levels ≡ 1 → (level : ℕ) → l
 only_one levels one level low = omega (arith, low, one)
 
 -- row and column stand in one level in the outer one alone
-outer_alone : (s : Shape) → HasLevels s → (level : ℕ) → level < length (levels_of s) → (level_at (levels_of s) level).axis ≡ axis.Both → level ≡ 0
+pub outer_alone : (s : Shape) → HasLevels s → (level : ℕ) → level < length (levels_of s) → (level_at (levels_of s) level).axis ≡ axis.Both → level ≡ 0
 outer_alone shape.DenseOne has level low both = only_one (levels_of shape.DenseOne) refl level low
 outer_alone shape.PackedOne has level low both = only_one (levels_of shape.PackedOne) refl level low
 outer_alone shape.ListOne has level low both = only_one (levels_of shape.ListOne) refl level low

@@ -1,7 +1,6 @@
-use Rattle.std.proofs.Common.{◌≡◌, None, length, map, refl, ◌∙◌, arith}
+use Rattle.std.proofs.Common.{◌≡◌, length, map, refl, ◌∙◌, arith}
 use Rattle.std.specs.String.{string_bytes}
 use Rattle.std.proofs.lemmas.List.{length-map}
-use Rattle.bern_top.specs.Requests.{request}
 use Rattle.bern_top.proofs.RequestLemmas.{run_answer, word_is}
 use Rattle.bern_top.proofs.requests.run_of.Goals as goal
 
@@ -9,8 +8,8 @@ pub returns-in-Some : goal.returns-in-Some
 returns-in-Some c =
     let words = c.args.words.now in
     let long : length words ≡ 3 = omega (arith, c.in-len3.len_at_least, c.in-len3.len_below) in
-    let answer = run_answer (map string_bytes words) (request (string_bytes c.job-item.result) c.in-Some.ranks None) c.as_bytes.result.now c.request_for.result c.requires (length-map words string_bytes ∙ long)
+    let answer = run_answer (map string_bytes words) (string_bytes c.job-item.result) c.as_bytes.result.now c.in-Some.ranks c.request_for.result c.requires (length-map words string_bytes ∙ long)
     (word_is string_bytes words 1 c.job-item.result (string_bytes c.job-item.result) c.job-item.is (omega (arith, long)) refl)
     (word_is string_bytes words 2 c.ranks-item.result c.as_bytes.result.now c.ranks-item.is (omega (arith, long)) c.as_bytes.ensures.value)
-    c.in-Some.ensures.found refl c.request_for.ensures in
+    c.in-Some.ensures.found c.request_for.ensures in
     record { found = answer.found; refused = answer.refused }

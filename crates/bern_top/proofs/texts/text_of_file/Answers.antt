@@ -3,14 +3,14 @@ use Rattle.bern_base.specs.declared.limits.TheConstants.{MOST_JOB_BYTES}
 use Rattle.job_files.proofs.ShelfLemmas.{told_both}
 use Rattle.job_files.specs.Answers.{ReadsWhole}
 use Rattle.bern_top.specs.Answers.{AnswersBytes, AnswersRequest}
-use Rattle.bern_top.specs.Requests.{request}
+use Rattle.bern_top.specs.Requests.{request, running}
 use Rattle.bern_top.proofs.EndingLemmas.{file_there}
 use Rattle.bern_top.proofs.texts.text_of_file.Goals as goal
 
 pub returns-in-Ok-Some-clause-told : goal.returns-in-Ok-Some-clause-told
 returns-in-Ok-Some-clause-told g c =
     let name = c.args.name.now in
-    let r = request name c.args.ranks c.args.seed in
+    let r = request name (running c.args.ranks c.args.seed) in
     let bytes : List ℕ = c.in-Ok-Some.bytes in
     let result = c.text_of_bytes.result in
     told_both (g.F.Shelf.files c.args.shelf.now) (g.F.Shelf.files c.read_file.new.shelf)

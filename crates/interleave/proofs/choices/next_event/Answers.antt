@@ -4,7 +4,7 @@ use Rattle.rank_scripts.specs.Worlds.{left}
 use Rattle.rank_scripts.proofs.CountLemmas.{happens_count}
 use Rattle.rank_scripts.proofs.RoundLemmas.{IsClosed-turns}
 use Rattle.rank_model.specs.Products.{scripts, schedule}
-use Rattle.rank_model.specs.Schedules.{request, values_letter}
+use Rattle.turn_model.specs.Schedules.{request, values_letter}
 use Rattle.interleave.specs.Worlds.{world_in, event_of}
 use Rattle.interleave.proofs.EventLemmas.{some_event, chosen_enabled}
 use Rattle.interleave.proofs.choices.next_event.Goals as goal

@@ -5,4 +5,4 @@ use Rattle.job_files.specs.Uses.{place_use}
 use Rattle.job_files.proofs.mentions.push_places.Given as goal
 
 abbrev pub invariant-loop-place : goal.invariant-loop-place
-invariant-loop-place l = l.uses ≡ l.initial.uses ++ flat_map (place_use l.ranks l.job.extents) (filter (λ place. place.arrays_before == l.number) (take l.place-index l.place-items))
+invariant-loop-place l = l.uses ≡ l.initial.uses ++ flat_map (place_use l.ranks l.job.extents) (filter (λ place. place.arrays_before == l.number) (take l.place-index l.places))

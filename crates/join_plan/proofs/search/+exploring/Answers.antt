@@ -66,8 +66,8 @@ pub explore-returns-then-is_bound-clause-keeps : goal.explore-returns-then-is_bo
 explore-returns-then-is_bound-clause-keeps turn c = record {
   steps = refl;
   prefix_room = refl;
-  best_room = c.keep.ensures.room ∙ sym c.requires.room.best_room;
-  cheap = λ small. subst IsCheap (sym c.keep.ensures.best) (spent_small c.args.left c.args.spent.many c.args.spent.cost c.requires.left c.requires.spent);
+  best_room = c.keep.ensures.room ∙ sym c.requires.can.room.best_room;
+  cheap = λ small. subst IsCheap (sym c.keep.ensures.best) (spent_small c.args.left c.args.spent.many c.args.spent.cost c.requires.can.few c.requires.can.bounded);
 }
 
 pub follow-returns-clause-best : goal.follow-returns-clause-best

@@ -1,0 +1,4 @@
+pub mod ApartLemmas
+pub mod BodyLemmas
+pub mod NestLemmas
+pub mod WriteLemmas

@@ -1,4 +1,0 @@
-pub mod BoxLemmas
-pub mod ExprLemmas
-pub mod StateLemmas
-pub mod WalkLemmas

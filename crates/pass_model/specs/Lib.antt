@@ -1,0 +1,4 @@
+pub mod Interior
+pub mod Local
+pub mod Needs
+pub mod Sums

@@ -1,0 +1,10 @@
+pub mod ApplyLemmas
+pub mod BoxLemmas
+pub mod LocalLemmas
+pub mod MeaningLemmas
+pub mod PassesLemmas
+pub mod RankLemmas
+pub mod SmallLemmas
+pub mod SoundLemmas
+pub mod SumLemmas
+pub mod ViewLemmas

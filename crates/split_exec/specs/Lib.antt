@@ -1,0 +1,5 @@
+pub mod Applying
+pub mod Boxes
+pub mod Hits
+pub mod Passing
+pub mod Settings

@@ -1,0 +1,17 @@
+//! The sums of a nest at a rank, and what they make of its target.
+//!
+//! Arrays, elements, variables, ranks and local numbers count from 0.
+#![tactic(auto)]
+
+mod boxes;
+mod delta;
+mod hits;
+mod interior;
+mod laws;
+mod own;
+mod replacing;
+
+pub use delta::Delta;
+pub use interior::inner;
+pub use laws::{boxes_of_replacing_nests_are_small, passes_sum_to_the_body};
+pub use replacing::apply;

@@ -1,0 +1,3 @@
+pub mod HeldArrays
+pub mod HeldLaws
+pub mod Alone

@@ -1,0 +1,2 @@
+pub mod OneRank
+pub mod Turns
