@@ -32,9 +32,8 @@ pub struct LocalView<S: Access, P: Placement> {
     ghost owned_is: { owned ≡ owned_of (P.triples place) rank },
     ghost own_is: { own ≡ own_cols axis cols owned },
     ghost end_is: { IsEnd (cut_of axis cols (P.triples place) rank) (length (P.triples place)) end },
-    ghost fits: { Fits (cut_of axis cols (P.triples place) rank) (S.tree store) } by {
-        fits_prop (cut_of axis cols (P.triples place) rank) (S.tree store)
-    },
+    ghost fits: { Fits (cut_of axis cols (P.triples place) rank) (S.tree store) } by { fits_prop (cut_of axis cols (P.triples place) rank)
+        (S.tree store) },
     ghost cut: { IsCut (cut_of axis cols (P.triples place) rank) },
 }
 
@@ -74,9 +73,8 @@ impl<S: Access, P: Placement> LocalView<S, P> {
     /// The index of the array for one of the part.
     fn globalize(&self, axis: Axis, index: u64) -> u64
         requires inside { IsInCut (cut_of self.now.axis self.now.cols (P.triples self.now.place) self.now.rank) axis index }
-        requires small {
-            global_index (cut_of self.now.axis self.now.cols (P.triples self.now.place) self.now.rank) axis index ≤ MOST_INDEX
-        }
+        requires small { global_index (cut_of self.now.axis self.now.cols (P.triples self.now.place) self.now.rank) axis index
+            ≤ MOST_INDEX }
         ensures { result ≡ global_index (cut_of self.now.axis self.now.cols (P.triples self.now.place) self.now.rank) axis index }
     {
         match axis {
@@ -114,9 +112,8 @@ impl<S: Access, P: Placement> LocalView<S, P> {
     /// The index of the part for one of the array, where the rank owns it.
     fn localize(&self, axis: Axis, index: u64) -> Option<u64>
         ensures some { IfSome result (IsLocal (cut_of self.now.axis self.now.cols (P.triples self.now.place) self.now.rank) axis index) }
-        ensures none {
-            IsNone result → IsElsewhere (cut_of self.now.axis self.now.cols (P.triples self.now.place) self.now.rank) axis index
-        }
+        ensures none { IsNone result →
+            IsElsewhere (cut_of self.now.axis self.now.cols (P.triples self.now.place) self.now.rank) axis index }
     {
         match axis {
             Axis::Row => self.local_row(index),
@@ -127,12 +124,10 @@ impl<S: Access, P: Placement> LocalView<S, P> {
 
     /// The number of an element in the part for its number in the array.
     fn local_element(&self, element: u64) -> Option<u64>
-        ensures some {
-            IfSome result (IsLocal (cut_of self.now.axis self.now.cols (P.triples self.now.place) self.now.rank) axis_is.Both element)
-        }
-        ensures none {
-            IsNone result → IsElsewhere (cut_of self.now.axis self.now.cols (P.triples self.now.place) self.now.rank) axis_is.Both element
-        }
+        ensures some { IfSome result
+            (IsLocal (cut_of self.now.axis self.now.cols (P.triples self.now.place) self.now.rank) axis_is.Both element) }
+        ensures none { IsNone result →
+            IsElsewhere (cut_of self.now.axis self.now.cols (P.triples self.now.place) self.now.rank) axis_is.Both element }
     {
         let cols = self.cols as u64;
         if cols == 0 {
@@ -149,12 +144,10 @@ impl<S: Access, P: Placement> LocalView<S, P> {
 
     /// The row of the part for one of the array.
     fn local_row(&self, row: u64) -> Option<u64>
-        ensures some {
-            IfSome result (IsLocal (cut_of self.now.axis self.now.cols (P.triples self.now.place) self.now.rank) axis_is.Row row)
-        }
-        ensures none {
-            IsNone result → IsElsewhere (cut_of self.now.axis self.now.cols (P.triples self.now.place) self.now.rank) axis_is.Row row
-        }
+        ensures some { IfSome result
+            (IsLocal (cut_of self.now.axis self.now.cols (P.triples self.now.place) self.now.rank) axis_is.Row row) }
+        ensures none { IsNone result →
+            IsElsewhere (cut_of self.now.axis self.now.cols (P.triples self.now.place) self.now.rank) axis_is.Row row }
     {
         match self.axis {
             Axis::Row => self.local(row),
@@ -164,12 +157,10 @@ impl<S: Access, P: Placement> LocalView<S, P> {
 
     /// The column of the part for one of the array.
     fn local_col(&self, col: u64) -> Option<u64>
-        ensures some {
-            IfSome result (IsLocal (cut_of self.now.axis self.now.cols (P.triples self.now.place) self.now.rank) axis_is.Col col)
-        }
-        ensures none {
-            IsNone result → IsElsewhere (cut_of self.now.axis self.now.cols (P.triples self.now.place) self.now.rank) axis_is.Col col
-        }
+        ensures some { IfSome result
+            (IsLocal (cut_of self.now.axis self.now.cols (P.triples self.now.place) self.now.rank) axis_is.Col col) }
+        ensures none { IsNone result →
+            IsElsewhere (cut_of self.now.axis self.now.cols (P.triples self.now.place) self.now.rank) axis_is.Col col }
     {
         match self.axis {
             Axis::Col => self.local(col),
@@ -273,9 +264,8 @@ impl<S: Access, P: Placement> Access for LocalView<S, P> {
 impl<S: Cells, P: Placement> Cells for LocalView<S, P> {
     ghost grid = { λ v. view_grid (cut_of v.axis v.cols (P.triples v.place) v.rank) (S.Access.tree v.store).levels (S.grid v.store) };
 
-    ghost listed = {
-        λ v. view_lists (cut_of v.axis v.cols (P.triples v.place) v.rank) (S.Access.tree v.store) (S.grid v.store) (S.listed v.store)
-    };
+    ghost listed = { λ v. view_lists (cut_of v.axis v.cols (P.triples v.place) v.rank)
+        (S.Access.tree v.store) (S.grid v.store) (S.listed v.store) };
 
     fn cell(&self, element: u32) -> Val {
         self.store.cell(element)
