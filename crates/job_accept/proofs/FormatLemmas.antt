@@ -1,22 +1,18 @@
 -- What each line of a job's text says of its format holds of the formats of an accepted job.
-use Rattle.std.proofs.Common.{ℕ, List, [], ◌∷◌, Option, Some, None, subst, sym}
+use Rattle.std.proofs.Common.{ℕ, List, [], ◌∷◌}
 use Rattle.std.specs.List.{All}
-use Rattle.std.proofs.lemmas.List.Elements.{All-append, All-cons, All-head, All-nil, All-tail}
+use Rattle.std.proofs.lemmas.List.Elements.{All-append, All-cons, All-nil}
 use Rattle.bern_base.specs.declared.job.Checked.{Checked}
 use Rattle.bern_base.specs.declared.job.FormatDecl.{FormatDecl}
 use Rattle.bern_base.specs.declared.raw.Form.{Form}
 use Rattle.bern_base.specs.declared.raw.Form.TheVariants as form
-use Rattle.bern_base.specs.declared.raw.JobLine.{JobLine}
 use Rattle.bern_base.specs.declared.raw.RawShape.{RawShape}
 use Rattle.bern_base.specs.declared.shape.Shape.{Shape}
-use Rattle.job_text.proofs.DepthLemmas.{read_all}
 use Rattle.job_text.specs.Forms.{AreLevels, IsForm}
-use Rattle.job_text.specs.Job.{numbered}
-use Rattle.job_text.specs.Lines.{lines}
 use Rattle.job_rules.specs.After.{after, shape_of}
-use Rattle.job_rules.specs.First.{AcceptsFrom}
-use Rattle.job_rules.specs.State.{State, start}
+use Rattle.job_rules.specs.State.{State}
 use Rattle.job_accept.specs.Front.{AcceptsBytes}
+use Rattle.job_accept.proofs.JobLemmas.{job_holds}
 
 module _ (P : Shape → Type 0) (each : (levels : RawShape) (words : List (List ℕ)) → AreLevels levels words → P (shape_of levels)) where
   -- of a line that declares a format
@@ -32,9 +28,6 @@ module _ (P : Shape → Type 0) (each : (levels : RawShape) (words : List (List 
   form_has (form.Nest nest) text is = tt
   form_has (form.Print name) text is = tt
 
-  abbrev LineHas : JobLine → Type 0
-  LineHas line = FormHas line.form
-
   abbrev FormatHas : FormatDecl → Type 0
   FormatHas format = P format.shape
 
@@ -49,14 +42,5 @@ module _ (P : Shape → Type 0) (each : (levels : RawShape) (words : List (List 
   after_has s number (form.Nest nest) has all = all
   after_has s number (form.Print name) has all = all
 
-  -- all lines
-  job_has : (s : State) (ls : List JobLine) (broken : Option ℕ) (job : Checked) → All LineHas ls → All FormatHas s.job.formats → AcceptsFrom s ls broken job → All FormatHas job.formats
-  job_has s [] None job lines all is = subst (λ j. All FormatHas j.formats) (sym is) all
-  job_has s [] (Some line) job lines all is = absurd is
-  job_has s (l ∷ ls) broken job lines all is =
-      job_has (after s l.number l.form) ls broken job (All-tail LineHas l ls lines) (after_has s l.number l.form (All-head LineHas l ls lines) all) is.1
-
   pub formats_have : (bytes : List ℕ) (job : Checked) → AcceptsBytes bytes job → All FormatHas job.formats
-  formats_have bytes job accepts =
-      let text = accepts.0 in
-      job_has start text.lines text.broken job (read_all FormHas form_has (numbered 1 (lines bytes)) text.lines text.broken accepts.1.is) (All-nil FormatHas) accepts.2
+  formats_have = job_holds FormHas form_has (λ job. All FormatHas job.formats) after_has (All-nil FormatHas)

@@ -1,4 +1,4 @@
--- The axes of the outer levels of formats, in a job.
+-- The axes of the outer levels of formats, and those along which arrays are split, in a job.
 use Rattle.std.specs.Prelude.{ℕ, List}
 use Rattle.std.specs.List.{All}
 use Rattle.bern_base.specs.declared.axes.Axis.{Axis}
@@ -23,3 +23,7 @@ HasOuterAxis other = Unit {0}
 -- what bytes are accepted as has no other formats of two levels
 abbrev pub OuterAxesAreOne : Type 0
 OuterAxesAreOne = (bytes : List ℕ) (job : Checked) → AcceptsBytes bytes job → All (λ format. HasOuterAxis format.shape) job.formats
+
+-- and no array that is split along both
+abbrev pub SplitAxesAreOne : Type 0
+SplitAxesAreOne = (bytes : List ℕ) (job : Checked) → AcceptsBytes bytes job → All (λ array. IsOneAxis array.axis) job.arrays

@@ -1,7 +1,7 @@
 ghost use Rattle.std.specs.Prelude.{ℕ, List};
 ghost use Rattle.bern_base.specs.declared.job.Checked.{Checked};
 ghost use Rattle.job_model.specs.Accepted.{IsAccepted};
-ghost use Rattle.job_accept.specs.Axes.{OuterAxesAreOne};
+ghost use Rattle.job_accept.specs.Axes.{OuterAxesAreOne, SplitAxesAreOne};
 ghost use Rattle.job_accept.specs.Front.{AcceptsBytes, BytesHaveOneAnswer};
 ghost use Rattle.job_accept.specs.Offsets.{OffsetsRise};
 ghost use Rattle.job_accept.specs.Variables.{NestsHaveVariables};
@@ -28,6 +28,12 @@ pub fn offsets_of_diagonals_rise()
 /// with another has no form. It does nothing.
 pub fn outer_axes_are_one()
     ensures { OuterAxesAreOne }
+{}
+
+/// The law that each array is split along its rows or along its columns in what bytes are accepted as: a line with another axis
+/// has no form. It does nothing.
+pub fn split_axes_are_one()
+    ensures { SplitAxesAreOne }
 {}
 
 /// The law that each nest has a loop variable in what bytes are accepted as: a line with none has no form. It does nothing.

@@ -4,18 +4,18 @@ use Rattle.std.specs.Prelude.{nat_lt}
 use Rattle.std.specs.List.{All, filter, flat_map}
 use Rattle.std.proofs.lemmas.Bool.{ltb-true, ltb-false, le-ltb, lt-ltb}
 use Rattle.std.proofs.lemmas.List.{append_assoc, append-nil}
-use Rattle.std.proofs.lemmas.List.Elements.{All-head, All-tail}
+use Rattle.std.proofs.lemmas.List.Elements.{All-head, All-tail, filter-append}
 use Rattle.std.proofs.lemmas.Grind.{flat_map-append}
+use Rattle.placement.specs.PlacementLaws.{range_more}
 use Rattle.term_model.specs.declared.plan.PlanStep.{PlanStep}
 use Rattle.term_model.specs.Plans.{Known, Query, after_step, candidates, due_searches, is_bound, is_ready, next, plans_from, ready}
 use Rattle.join_plan.specs.Costs.{Measures, cost_from, keeps, offers, weight_of}
 use Rattle.std.specs.List.{range_with_len}
-use Rattle.std.proofs.Math.Nat.{zero-add, add-zero}
+use Rattle.std.proofs.Math.Nat.{add-zero}
 use Rattle.smallvec.specs.SmallVec.{SmallVec}
 use Rattle.join_plan.specs.declared.best.Best.{Best}
 use Rattle.join_plan.specs.declared.limits.TheConstants.{MOST_SPENT}
 use Rattle.join_plan.specs.Picks.{IsCheap, IsSpent, Keeps, Priced, beats, better, following, most_many, pick, priced, seen}
-use Rattle.join_plan.proofs.SearchLemmas.{range_more}
 
 pub pick_more : (f : List PlanStep → Priced) (best : Option Priced) (ps qs : List (List PlanStep)) → pick f best (ps ++ qs) ≡ pick f (pick f best ps) qs
 pick_more f best [] qs = refl
@@ -53,17 +53,9 @@ priced_step q m k many spent prefix s rest =
     by_sum : (a b c : ℕ) → spent + (a + b + c) ≡ spent + (a + b) + c
     by_sum a b c = omega arith
 
-pub filter_more : {X : Type 0} (p : X → Bool) (xs ys : List X) → filter p (xs ++ ys) ≡ filter p xs ++ filter p ys
-filter_more p [] ys = refl
-filter_more p (x ∷ xs) ys = at (p x) (filter_more p xs ys)
-  where
-    at : (b : Bool) → filter p (xs ++ ys) ≡ filter p xs ++ filter p ys → cond b (x ∷ filter p (xs ++ ys)) (filter p (xs ++ ys)) ≡ cond b (x ∷ filter p xs) (filter p xs) ++ filter p ys
-    at true rest = ap (λ zs. x ∷ zs) rest
-    at false rest = rest
-
 pub following_more : (q : Query) (n : ℕ) (k : Known) (xs ys : List PlanStep) → following q n k (xs ++ ys) ≡ following q n k xs ++ following q n k ys
 following_more q n k xs ys =
-    ap (flat_map (λ s. map (λ rest. s ∷ rest) (plans_from q n (next q k s)))) (filter_more (is_ready q k) xs ys)
+    ap (flat_map (λ s. map (λ rest. s ∷ rest) (plans_from q n (next q k s)))) (filter-append (is_ready q k) xs ys)
     ∙ flat_map-append (λ s. map (λ rest. s ∷ rest) (plans_from q n (next q k s))) (filter (is_ready q k) xs) (filter (is_ready q k) ys)
 
 -- some steps and then some more
@@ -127,7 +119,7 @@ tried_more q m k many spent n p0 p1 b0 b1 b2 xs ys same first second =
 -- one line of a table more
 pub table_more : {X : Type 0} (g : ℕ → List X) (r : ℕ) → flat_map g (range_with_len 0 (r + 1)) ≡ flat_map g (range_with_len 0 r) ++ g r
 table_more g r =
-    ap (flat_map g) (range_more 0 r ∙ ap (λ x. range_with_len 0 r ++ x ∷ []) (zero-add r)) ∙ flat_map-append g (range_with_len 0 r) (r ∷ []) ∙ ap (λ xs. flat_map g (range_with_len 0 r) ++ xs) (append-nil (g r))
+    ap (flat_map g) (range_more r) ∙ flat_map-append g (range_with_len 0 r) (r ∷ []) ∙ ap (λ xs. flat_map g (range_with_len 0 r) ++ xs) (append-nil (g r))
 
 -- what a step takes and leads to, by the numbers that the code has of it
 pub step_tried : (q : Query) (m : Measures) (n : ℕ) (k : Known) (many spent : ℕ) (prefix : List PlanStep) (s : PlanStep) (best new : Option Priced) (kept offered weight many_now spent_now : ℕ) (steps : List PlanStep) →

@@ -2,11 +2,10 @@
 use Rattle.std.proofs.Common.{◌≡◌, ◌∙◌, ℕ, zero, suc, ◌+◌, ◌<◌, Bool, true, false, cond, List, [], ◌∷◌, ◌++◌, map, length, refl, sym, ap, subst, arith}
 use Rattle.std.specs.Prelude.{replicate}
 use Rattle.std.specs.List.{flat_map, fold, range_with_len}
-use Rattle.std.proofs.Math.Nat.{zero-add}
 use Rattle.std.proofs.lemmas.Grind.{flat_map-append}
-use Rattle.std.proofs.lemmas.List.{append-nil, map-id}
-use Rattle.std.proofs.lemmas.List.FromFn.{map-range_with_len_more}
+use Rattle.std.proofs.lemmas.List.{append-nil}
 use Rattle.std.proofs.lemmas.List.Sums.{sum_by-append}
+use Rattle.placement.specs.PlacementLaws.{range_more}
 use Rattle.term_model.specs.Plans.{Known, Query, Search, can_search, deeper, depth_of, due_searches, searched, searches, tries}
 use Rattle.join_plan.specs.Costs.{Measures, weight_of}
 use Rattle.join_plan.specs.Progress.{searched_by, tries_before}
@@ -43,16 +42,10 @@ pub weight_more : (q : Query) (m : Measures) (k : Known) (xs ys : List ℕ) →
 weight_more q m k xs ys =
     ap (weight_of m) (searches_more q k xs ys) ∙ sum_by-append (λ s. (m.stat s.reference s.level).weight) (searches q k xs) (searches q (searched_by q k xs) ys)
 
-pub range_more : (a n : ℕ) → range_with_len a (n + 1) ≡ range_with_len a n ++ (a + n) ∷ []
-range_more a n = by_map (range_with_len a (n + 1)) (range_with_len a n) (map-range_with_len_more (λ x. x) a n (a + n) refl)
-  where
-    by_map : (more xs : List ℕ) → map (λ x. x) more ≡ map (λ x. x) xs ++ (a + n) ∷ [] → more ≡ xs ++ (a + n) ∷ []
-    by_map more xs is = sym (map-id more) ∙ is ∙ ap (λ ys. ys ++ (a + n) ∷ []) (map-id xs)
-
 -- one reference more
 pub before_more : (q : Query) (r : ℕ) → tries_before q (r + 1) ≡ tries_before q r ++ replicate (depth_of q r) r
 before_more q r =
-    ap (flat_map (λ s. replicate (depth_of q s) s)) (range_more 0 r ∙ ap (λ x. range_with_len 0 r ++ x ∷ []) (zero-add r)) ∙ flat_map-append (λ s. replicate (depth_of q s) s) (range_with_len 0 r) (r ∷ [])
+    ap (flat_map (λ s. replicate (depth_of q s) s)) (range_more r) ∙ flat_map-append (λ s. replicate (depth_of q s) s) (range_with_len 0 r) (r ∷ [])
     ∙ ap (λ xs. tries_before q r ++ xs) (append-nil (replicate (depth_of q r) r))
 
 pub all_tried : (q : Query) (k : Known) → searches q k (tries_before q (length q.sparse)) ≡ due_searches q k

@@ -3,13 +3,14 @@ use Rattle.std.proofs.Common.{◌≡◌, ◌∙◌, ℕ, zero, suc, ◌+◌, ◌
 use Rattle.std.specs.List.{filter, flat_map, fold, range_with_len}
 use Rattle.std.proofs.lemmas.Grind.{flat_map-append}
 use Rattle.std.proofs.lemmas.List.{append_assoc, append-nil, take_more}
+use Rattle.std.proofs.lemmas.List.Elements.{filter-append}
 use Rattle.bern_base.specs.declared.job.Checked.{Checked}
 use Rattle.bern_base.specs.declared.job.Nest.{Nest}
 use Rattle.term_model.specs.declared.plan.PlanStep.{PlanStep}
 use Rattle.term_model.specs.declared.term.Term.{Term}
 use Rattle.term_model.specs.Plans.{four}
 use Rattle.join_plan.specs.PlanText.{bound_after, step_line, steps_text}
-use Rattle.join_plan.proofs.PickLemmas.{filter_more, table_more}
+use Rattle.join_plan.proofs.PickLemmas.{table_more}
 
 at_four : (v : ℕ) → v < 4 → get_or four v 0 ≡ v
 at_four zero below = refl
@@ -20,7 +21,7 @@ at_four (suc (suc (suc (suc v)))) below = absurd (omega (arith, below))
 
 taken_more : (p : ℕ → Bool) (v : ℕ) → v < 4 → filter p (take (v + 1) four) ≡ filter p (take v four) ++ cond (p v) (v ∷ []) []
 taken_more p v below =
-    ap (filter p) (take_more four v 0 below ∙ ap (λ x. take v four ++ x ∷ []) (at_four v below)) ∙ filter_more p (take v four) (v ∷ [])
+    ap (filter p) (take_more four v 0 below ∙ ap (λ x. take v four ++ x ∷ []) (at_four v below)) ∙ filter-append p (take v four) (v ∷ [])
 
 -- a variable of the four that passes is one more piece, and one that does not is none
 passed_more : (g : ℕ → List ℕ) (p : ℕ → Bool) (v : ℕ) (before out new : List ℕ) → v < 4 → p v ≡ true → out ≡ before ++ flat_map g (filter p (take v four)) → new ≡ out ++ g v →

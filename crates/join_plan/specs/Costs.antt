@@ -42,7 +42,8 @@ weight_of m searches = sum_by (λ s. (m.stat s.reference s.level).weight) search
 abbrev pub cost_from : Query → Measures → Known → ℕ → List PlanStep → ℕ
 cost_from q m k many [] = 0
 cost_from q m k many (s ∷ rest) =
-    many * offers m k s + many * keeps m k s * weight_of m (due_searches q (after_step q k s)) + cost_from q m (next q k s) (many * keeps m k s) rest
+    many * offers m k s + many * keeps m k s * weight_of m (due_searches q (after_step q k s))
+    + cost_from q m (next q k s) (many * keeps m k s) rest
 
 -- the searches before the first step, and then the steps from one binding on
 abbrev pub cost : Query → Measures → List PlanStep → ℕ

@@ -32,5 +32,6 @@ pub record IsMeasuredWithin (job : Checked) (stats : List Stats) (number : ℕ) 
 -- each term of a nest of an accepted job can be scheduled
 abbrev pub TermsCanBeScheduled : Type 0
 TermsCanBeScheduled =
-    (job : Checked) (nest : Nest) (t : Term) (stats : List Stats) → IsAccepted job → IsNestOf job nest → Contains (terms_of job nest.body) t →
-    All (λ ref. IsMeasuredWithin job stats ref.array) t.sparse → CanSchedule (record { vars = nest.vars; term = t; stats = stats })
+    (job : Checked) (nest : Nest) (t : Term) (stats : List Stats) → IsAccepted job → IsNestOf job nest →
+    Contains (terms_of job nest.body) t → All (λ ref. IsMeasuredWithin job stats ref.array) t.sparse →
+    CanSchedule (record { vars = nest.vars; term = t; stats = stats })

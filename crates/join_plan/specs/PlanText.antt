@@ -81,7 +81,8 @@ step_line job nest t bound (step.Drive r level v) = codes "drive " ++ level_name
 step_line job nest t bound (step.DriveFlat r) =
     codes "flat " ++ reference_name job t r ++ flat_map (variable_word nest) (flat_variables bound (slice_get t.sparse r)) ++ codes "\n"
 step_line job nest t bound (step.Merge left left_level right right_level v) =
-    codes "merge " ++ level_name job t left left_level ++ codes " " ++ level_name job t right right_level ++ variable_word nest v ++ codes "\n"
+    codes "merge " ++ level_name job t left left_level ++ codes " " ++ level_name job t right right_level
+    ++ variable_word nest v ++ codes "\n"
 
 -- what is bound after it
 abbrev pub bound_after : Term → List ℕ → PlanStep → List ℕ
@@ -112,7 +113,8 @@ planned_text job number nest place None = []
 planned_text job number nest place (Some planned) = term_text job number nest place planned
 
 abbrev pub terms_text : Checked → ℕ → Nest → List PlannedTerm → List ℕ
-terms_text job number nest terms = flat_map (λ place. planned_text job number nest place (slice_get terms place)) (range_with_len 0 (length terms))
+terms_text job number nest terms =
+    flat_map (λ place. planned_text job number nest place (slice_get terms place)) (range_with_len 0 (length terms))
 
 abbrev pub nest_text : Checked → ℕ → Option Nest → Option (List PlannedTerm) → List ℕ
 nest_text job number None terms = []

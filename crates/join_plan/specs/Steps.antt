@@ -13,4 +13,5 @@ abbrev pub IsStepOf : ℕ → PlanStep → Type 0
 IsStepOf references (step.Range v) = v < 4
 IsStepOf references (step.Drive r level v) = (r < 4) × (r < references) × (v < 4)
 IsStepOf references (step.DriveFlat r) = (r < 4) × (r < references)
-IsStepOf references (step.Merge left left_level right right_level v) = (left < 4) × (left < references) × (right < 4) × (right < references) × (v < 4)
+IsStepOf references (step.Merge left left_level right right_level v) =
+    (left < 4) × (left < references) × (right < 4) × (right < references) × (v < 4)

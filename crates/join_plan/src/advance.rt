@@ -116,7 +116,8 @@ impl<'a> Task<'a> {
     /// Every reference in order searches its levels as long as it can.
     pub(crate) fn search(&self, progress: &Progress) -> Searched
         ensures progress { (k : Known) → Knows k progress.now → Knows (searched (query_in self.now) k) result.progress }
-        ensures weight { (k : Known) → Knows k progress.now → result.weight ≡ weight_of (measures_in self.now) (due_searches (query_in self.now) k) }
+        ensures weight { (k : Known) → Knows k progress.now →
+            result.weight ≡ weight_of (measures_in self.now) (due_searches (query_in self.now) k) }
         ensures modest { result.weight ≤ MOST_SEARCHED }
     {
         let references = self.references();

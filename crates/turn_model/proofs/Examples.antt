@@ -1,5 +1,5 @@
 -- Runs worked by hand.
-use Rattle.std.specs.Prelude.{◌≡◌, ℕ, zero, suc, ◌+◌, ◌==◌, if◌then◌else◌, true, List, [], ◌∷◌, ◌++◌, None, refl}
+use Rattle.std.specs.Prelude.{◌≡◌, ℕ, zero, suc, ◌+◌, ◌*◌, ◌==◌, if◌then◌else◌, true, List, [], ◌∷◌, ◌++◌, None, refl}
 use Rattle.bern_base.specs.declared.letter.Letter.{Letter}
 use Rattle.bern_base.specs.declared.letter.Letter.TheVariants.{Request, Values}
 use Rattle.bern_base.specs.declared.letter.NeedSet.{NeedSet}
@@ -8,7 +8,7 @@ use Rattle.rank_scripts.specs.Scripts.{book, letters}
 use Rattle.rank_scripts.specs.Worlds.{World, Event, Works, Posts, Takes, accepted, done, start}
 use Rattle.rank_scripts.specs.Worlds as worlds
 use Rattle.turn_model.specs.Schedules.{Schedule, scripts_of, values_letter}
-use Rattle.turn_model.specs.Runs.{Run, events, part_values, schedule, scripts}
+use Rattle.turn_model.specs.Runs.{Run, events, part_values, rank_budget, run_budget, schedule, scripts, turns_budget}
 
 abbrev set : ℕ → ℕ → ℕ → List ℕ → NeedSet
 set nest owner array elements = record { nest = nest; owner = owner; array = array; elements = elements }
@@ -25,6 +25,7 @@ run_on ranks turns needs = record {
   state = state_at;
   held = λ array p. if p == 0 then 0 ∷ 1 ∷ [] else 2 ∷ 3 ∷ [];
   whole = λ array. array == 0;
+  budget = record { inspect = λ p. p; inner = λ t p. 10 * t + p; outer = λ t p. 100 };
 }
 
 -- two ranks and the turns 0, 1, 0: each needs an element of the other for nest 0, and rank 1 two more for nest 1
@@ -133,3 +134,13 @@ three_turns = record {
 
 posted_in_turns : book (scripts_of three_turns) 0 1 ≡ Request (record { sets = [] }) ∷ Values 0 (40 ∷ []) ∷ Values 2 (42 ∷ []) ∷ []
 posted_in_turns = refl
+
+-- the steps of rank 1: one to inspect, and in turns 0, 1 and 2 those of 1, 11 and 21 and thrice 100
+steps_of_rank : rank_budget repeated 1 ≡ 334
+steps_of_rank = refl
+
+steps_from_turn_2 : turns_budget repeated 1 2 ≡ 121
+steps_from_turn_2 = refl
+
+steps_of_run : run_budget repeated ≡ 664
+steps_of_run = refl

@@ -1,16 +1,24 @@
 -- A run over turns: what each rank needs of others, the state before each turn, and so the letters of each turn.
-use Rattle.std.specs.Prelude.{ℕ, ◌+◌, ◌*◌, ◌≤◌, ◌==◌, ◌&&◌, Bool, not, List, length, filter, slice_index_or}
-use Rattle.std.specs.List.{flat_map, list_any}
+use Rattle.std.specs.Prelude.{ℕ, ◌+◌, ◌-◌, ◌*◌, ◌^◌, ◌<◌, ◌≤◌, ◌==◌, ◌&&◌, Bool, not, List, length, filter, slice_index_or}
+use Rattle.std.specs.List.{flat_map, list_any, range_with_len, sum_by}
 use Rattle.bern_base.specs.declared.letter.Letter.{Letter}
 use Rattle.bern_base.specs.declared.letter.NeedSet.{NeedSet}
 use Rattle.bern_base.specs.declared.limits.TheConstants.{MOST_RANKS}
 use Rattle.job_model.specs.State.{State}
-use Rattle.rank_scripts.specs.Scripts.{Scripts, letters}
-use Rattle.turn_model.specs.Schedules.{Schedule, scripts_of, values_at}
+use Rattle.rank_scripts.specs.Ranks.{sum_below}
+use Rattle.rank_scripts.specs.Scripts.{Scripts, book, letters}
+use Rattle.turn_model.specs.Schedules.{Schedule, scripts_of, values_at, values_in}
+
+-- how many steps the works of a rank may take: its inspection, by rank, and the inner and the outer points of a turn, by
+-- turn and rank
+pub record Budget : Type 0 where
+  pub inspect : ℕ → ℕ
+  pub inner : ℕ → ℕ → ℕ
+  pub outer : ℕ → ℕ → ℕ
 
 -- what contracts see of a run: the ranks, the nest of each turn, what each rank needs of all others, the state before
 -- each turn (the one after the last turn is that before turn `length turns`), which elements of an array a rank holds, in
--- the order in which it holds them, by array and rank, and which arrays are stored whole
+-- the order in which it holds them, by array and rank, which arrays are stored whole, and the steps that works may take
 pub record Run : Type 0 where
   pub ranks : ℕ
   pub turns : List ℕ
@@ -18,6 +26,7 @@ pub record Run : Type 0 where
   pub state : ℕ → State
   pub held : ℕ → ℕ → List ℕ
   pub whole : ℕ → Bool
+  pub budget : Budget
 
 abbrev pub turns_of : Run → ℕ
 turns_of run = length run.turns
@@ -29,11 +38,6 @@ nest_at run t = slice_index_or run.turns t 0
 -- so many turns a run may have at most
 abbrev pub most_turns : ℕ
 most_turns = 10000
-
--- a run has no more ranks and turns than a job may have
-pub record IsRun (run : Run) : Type 0 where
-  pub ranks : run.ranks ≤ MOST_RANKS
-  pub turns : turns_of run ≤ most_turns
 
 -- sets with this owner; sets for this nest
 abbrev pub is_from : ℕ → NeedSet → Bool
@@ -84,3 +88,22 @@ scripts run = scripts_of (schedule run)
 -- how many events the run has: each rank inspects, and works twice in each turn; each letter is posted and taken
 abbrev pub events : Run → ℕ
 events run = run.ranks * (1 + 2 * turns_of run) + 2 * letters (scripts run)
+
+-- a run has no more ranks and turns than a job may have, and each book has fewer values than a word can count
+pub record IsRun (run : Run) : Type 0 where
+  pub ranks : run.ranks ≤ MOST_RANKS
+  pub turns : turns_of run ≤ most_turns
+  pub values : (p q : ℕ) → p < run.ranks → q < run.ranks → sum_by values_in (book (scripts run) p q) < 2 ^ 64
+
+-- the steps that rank r may take in a turn, in turn t and all later ones, and in the whole run; those of all ranks
+abbrev pub turn_budget : Run → ℕ → ℕ → ℕ
+turn_budget run r t = run.budget.inner t r + run.budget.outer t r
+
+abbrev pub turns_budget : Run → ℕ → ℕ → ℕ
+turns_budget run r t = sum_by (turn_budget run r) (range_with_len t (turns_of run - t))
+
+abbrev pub rank_budget : Run → ℕ → ℕ
+rank_budget run r = run.budget.inspect r + turns_budget run r 0
+
+abbrev pub run_budget : Run → ℕ
+run_budget run = sum_below run.ranks (rank_budget run)

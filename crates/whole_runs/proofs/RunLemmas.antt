@@ -89,7 +89,7 @@ value_small m n = ⊎_elim
     (λ past. subst (λ v. v < 2 ^ 64) (sym (get_or_past (values_of m) n 0 (omega (arith, past, length-map-range_with_len (element m.cols m.entries) 0 (m.rows * m.cols))))) (pow_pos 64))
     (cases_lt n (m.rows * m.cols))
 
-first_kept : (job : Checked) (ms : List Matrix) (orders : List (List ℕ)) → CanRun job ms orders → IsStateOf job (first_state ms)
+pub first_kept : (job : Checked) (ms : List Matrix) (orders : List (List ℕ)) → CanRun job ms orders → IsStateOf job (first_state ms)
 first_kept job ms orders can = record {
   count = length-map ms values_of ∙ zip_long (IsArrayIn job.formats) job.arrays ms can.arrays;
   sizes = λ number array at.
@@ -120,7 +120,7 @@ dense_weight (Some format) ranks array whole = by_shape format.shape whole
     by_shape (shape.Diagonal offsets) is = absurd cc
     by_shape (shape.Permute file) is = absurd cc
 
-small_arrays : (job : Checked) (ms : List Matrix) (orders : List (List ℕ)) → CanRun job ms orders → AreSmall job
+pub small_arrays : (job : Checked) (ms : List Matrix) (orders : List (List ℕ)) → CanRun job ms orders → AreSmall job
 small_arrays job ms orders can k d low whole =
     let array : ArrayDecl = get_or job.arrays k d in
     let found = some_at job.arrays k low in

@@ -50,7 +50,7 @@ use Rattle.whole_turns.proofs.ShowLemmas.{StoreAt, cell, have_parts, shows, stor
 contains_all : {X : Type 0} (P : X → Type 0) (xs : List X) (x : X) → All P xs → Contains xs x → P x
 contains_all P xs x all has = subst P has.2 (all has.0 x has.1)
 
-map_has : {X Y : Type 0} (f : X → Y) (xs : List X) (k : ℕ) (d : X) → k < length xs → Contains (map f xs) (f (get_or xs k d))
+pub map_has : {X Y : Type 0} (f : X → Y) (xs : List X) (k : ℕ) (d : X) → k < length xs → Contains (map f xs) (f (get_or xs k d))
 map_has f xs k d low =
     (k, subst (λ n. k < n) (sym (length-map xs f)) low, get_or-map f xs k (get_or xs k d) (f (get_or xs k d)) low ∙ ap f (sym (get_or_default xs k d (get_or xs k d) low)))
 
