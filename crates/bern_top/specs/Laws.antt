@@ -12,5 +12,5 @@ use Rattle.bern_top.specs.declared.requests.Command.TheVariants.{Plan}
 -- where words ask for the plans of an accepted job, and nothing stops the loading of its files, a text is due
 abbrev pub PlansAreDue : Type 0
 PlansAreDue =
-    (files : Files) (words : List (List ℕ)) (name bytes : List ℕ) (job : Checked) → Asks words name Plan → bytes_of files name ≡ Some bytes →
-    AcceptsBytes bytes job → stop_of_files files name 1 (unplaced job) ≡ None → (text : List ℕ) × IsDue files words text
+    (files : Files) (words : List (List ℕ)) (name bytes : List ℕ) (job : Checked) → Asks words name Plan →
+    bytes_of files name ≡ Some bytes → AcceptsBytes bytes job → stop_of_files files name 1 (unplaced job) ≡ None → (text : List ℕ) × IsDue files words text

@@ -65,7 +65,8 @@ SaysReadFault words before after out err status =
 abbrev pub SaysWriteFault : List (List ℕ) → Option Files → Port → Port → ℕ → Type 0
 SaysWriteFault words files out err status =
     status ≡ 4 →
-    Rose out.before out.now × IfSome files (λ fs. (text : List ℕ) × IsDue fs words text × StopsWithin out text) × HasLine err write_fault_line
+    Rose out.before out.now × IfSome files (λ fs. (text : List ℕ) × IsDue fs words text × StopsWithin out text) ×
+    HasLine err write_fault_line
 
 -- 5 is want of memory, with nothing on out
 abbrev pub SaysMemory : Port → Port → ℕ → Type 0
@@ -75,7 +76,8 @@ SaysMemory out err status = status ≡ 5 → Keeps out.old out.new × HasLine er
 abbrev pub SaysDue : List (List ℕ) → ShelfState → ShelfState → Port → ℕ → Type 0
 SaysDue words before after out status =
     IfSome before.files
-    (λ fs. (text : List ℕ) → IsDue fs words text → IsCalm fs words before after → (Rose out.before out.now → ⊥) → (status ≡ 0) ⊎ (status ≡ 5))
+    (λ fs. (text : List ℕ) → IsDue fs words text → IsCalm fs words before after → (Rose out.before out.now → ⊥) →
+    (status ≡ 0) ⊎ (status ≡ 5))
 
 -- where something is refused and the shelf is calm, it is refused with its line, or memory was short
 abbrev pub SaysRefusal : List (List ℕ) → ShelfState → ShelfState → Port → ℕ → Type 0

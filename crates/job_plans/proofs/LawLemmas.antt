@@ -71,7 +71,7 @@ measured_ref job ms nest ref can read =
     }
 
 -- and so are the sparse references of a term
-measured_refs : (job : Checked) (ms : List Matrix) (nest : Nest) (t : Term) → IsPlannable job ms → IsNestOf job nest → Contains (terms_of job nest.body) t → All (λ ref. IsMeasuredWithin job (measured job ms) ref.array) t.sparse
+pub measured_refs : (job : Checked) (ms : List Matrix) (nest : Nest) (t : Term) → IsPlannable job ms → IsNestOf job nest → Contains (terms_of job nest.body) t → All (λ ref. IsMeasuredWithin job (measured job ms) ref.array) t.sparse
 measured_refs job ms nest t can is listed =
     let reads : All (IsReadOf job nest) (references_of t) = All-contains (λ u. All (IsReadOf job nest) (references_of u)) (terms_of job nest.body) t (terms_read_the_body job nest is) listed in
     λ k d below. measured_ref job ms nest (get_or t.sparse k d) can

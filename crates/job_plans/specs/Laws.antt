@@ -30,9 +30,12 @@ AcceptedJobsCanBePlanned = (job : Checked) (ms : List Matrix) → IsPlannable jo
 
 -- plans of least cost are plans of the terms by the formats of the job, so what runs any plans runs these
 abbrev pub LeastPlansArePlans : Type 0
-LeastPlansArePlans = (job : Checked) (ms : List Matrix) (plans : Plans) → IsPlannable job ms → AreLeast job (measured job ms) plans → ArePlansOf job plans
+LeastPlansArePlans =
+    (job : Checked) (ms : List Matrix) (plans : Plans) → IsPlannable job ms → AreLeast job (measured job ms) plans →
+    ArePlansOf job plans
 
 -- a job has plans of least cost, and one list of them alone, whatever was measured
 abbrev pub PlansAreOne : Type 0
 PlansAreOne =
-    (job : Checked) (stats : List Stats) → (plans : Plans) × AreLeast job stats plans × ((other : Plans) → AreLeast job stats other → other ≡ plans)
+    (job : Checked) (stats : List Stats) →
+    (plans : Plans) × AreLeast job stats plans × ((other : Plans) → AreLeast job stats other → other ≡ plans)

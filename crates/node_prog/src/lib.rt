@@ -7,9 +7,11 @@ mod bounds;
 mod due;
 mod home;
 mod job_route;
+mod record;
 mod run_line;
 mod subscripts;
 mod visit;
 
+pub use record::{Recorded, Slot};
 pub use run_line::RunLine;
 pub use visit::Visit;

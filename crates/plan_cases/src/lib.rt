@@ -2,4 +2,10 @@
 #![tactic(auto)]
 
 #[cfg(test)]
+mod plan_list;
+#[cfg(test)]
 mod plans;
+#[cfg(test)]
+mod random_plans;
+#[cfg(test)]
+mod random_terms;

@@ -10,13 +10,14 @@ use Rattle.std.proofs.lemmas.Int.{ints}
 use Rattle.std.proofs.lemmas.List.{map-append, get_or-set_same, get_or-set_other, take_more_set, drop_more, take_all, drop_all, get_or_default, length-set, length-take-le, length-drop, length-append, get_or_append_left, get_or-append-add, get_or-take, get_or-drop}
 use Rattle.std.proofs.lemmas.List.Elements.{All-append, All-cons, All-map, All-nil}
 use Rattle.std.proofs.lemmas.List.Folds.{flat_map-map}
-use Rattle.std.proofs.lemmas.List.FromFn.{get_or-map-range_with_len, length-map-range_with_len, map-range_with_len_more}
+use Rattle.std.proofs.lemmas.List.FromFn.{get_or-map-range_with_len, length-map-range_with_len}
 use Rattle.std.specs.Ordering.{int_eq}
 use Rattle.term_model.specs.Plans.{has_factor}
 use Rattle.bern_base.specs.Affine.{AffineForm, IsInBox, IsWithin, IsInSpan, IsPoint, number_of, span_of, value_at}
 use Rattle.bern_base.specs.declared.job.Span.{Span}
 use Rattle.job_model.specs.Points.{natural, values_of, choices, bounds_at, spans_of}
 use Rattle.job_model.specs.Runnable.{IsNear}
+use Rattle.placement.specs.PlacementLaws.{range_more}
 use Rattle.split_exec.specs.Boxes.{AreAlike, AreChosen, HangsOn, IsNearSpan, points_below, points_from}
 
 natural_below : (z : ℤ) (k : ℕ) → k < natural z → pos k <ℤ z
@@ -95,9 +96,6 @@ box_step front span spans =
     ∙ flat_map_agree (λ k. map (λ rest. front ++ rest) (map (λ rest. (span.0 +ℤ pos k) ∷ rest) (choices spans))) (λ k. points_from (front ++ (span.0 +ℤ pos k) ∷ []) spans)
     (λ k. map-map (λ rest. front ++ rest) (λ rest. (span.0 +ℤ pos k) ∷ rest) (choices spans) ∙ map_agree (λ rest. front ++ (span.0 +ℤ pos k) ∷ rest) (λ rest. (front ++ (span.0 +ℤ pos k) ∷ []) ++ rest) (λ rest. sym (append_assoc front ((span.0 +ℤ pos k) ∷ []) rest)) (choices spans))
     (range_with_len 0 (natural (span.1 -ℤ span.0)))
-
-range_more : (k : ℕ) → range_with_len 0 (k + 1) ≡ range_with_len 0 k ++ k ∷ []
-range_more k = sym (map_id (range_with_len 0 (k + 1))) ∙ map-range_with_len_more (λ j. j) 0 k k (omega arith) ∙ ap (λ l. l ++ k ∷ []) (map_id (range_with_len 0 k))
 
 -- one value more of the variable
 pub below_more : (front : List ℤ) (spans : List (ℤ × ℤ)) (lo : ℤ) (k : ℕ) → points_below front spans lo (k + 1) ≡ points_below front spans lo k ++ points_from (front ++ (lo +ℤ pos k) ∷ []) spans

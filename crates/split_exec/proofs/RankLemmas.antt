@@ -13,7 +13,7 @@ use Rattle.bern_base.specs.declared.job.ArrayDecl.{ArrayDecl}
 use Rattle.bern_base.specs.declared.job.Checked.{Checked}
 use Rattle.bern_base.specs.declared.job.Ref.{Ref}
 use Rattle.bern_base.specs.declared.limits.TheConstants.{MOST_SIDE, MOST_WEIGHT}
-use Rattle.job_model.specs.Accepted.{IsArrayOf, IsNestOf, is_col, split_form, split_size}
+use Rattle.job_model.specs.Accepted.{IsAccepted, IsArrayOf, IsNestOf, is_col, split_form, split_size}
 use Rattle.bern_base.specs.declared.job.Nest.{Nest}
 use Rattle.job_model.specs.Points.{natural, spans_of}
 use Rattle.bern_base.specs.Affine.{IsInBox, value_at}
@@ -26,7 +26,7 @@ use Rattle.placement.specs.Placement.{IsPlacement, Triple, local_of, owned_of, o
 use Rattle.plan_courses.proofs.ReferenceLemmas.{col_at, element_is, inside_of, owner_by_form, row_at}
 use Rattle.term_model.specs.Answers.{Places, home_of, owner_in}
 use Rattle.split_exec.specs.Hits.{IsNamed, OwnsWhole, split_index, spot, spot_in}
-use Rattle.split_exec.specs.Settings.{IsAtRank}
+use Rattle.split_exec.specs.Settings.{AreSmall, IsAtRank}
 use Rattle.std.proofs.lemmas.Nat.{mul-add-lt}
 use Rattle.split_exec.proofs.LocalLemmas.{local_low, owned_few, whole_local, whole_owner}
 use Rattle.split_exec.proofs.MeaningLemmas.{col_inside, row_inside}
@@ -41,6 +41,21 @@ within [] n x some = absurd cc
 within (y ∷ xs) zero x some = omega arith
 within (y ∷ xs) (suc n) x some = let rest = within xs n x some in omega (arith, rest)
 
+-- the sides of an array of an accepted job
+pub sides : (job : Checked) → IsAccepted job → (number : ℕ) (array : ArrayDecl) → slice_get job.arrays number ≡ Some array → (array.rows ≤ MOST_SIDE) × (array.cols ≤ MOST_SIDE)
+sides job accepted number array named = let is = all_at (IsArrayOf job) job.arrays number array accepted.arrays named in (is.rows.1, is.cols.1)
+
+pub weight : (job : Checked) → AreSmall job → (number : ℕ) (array : ArrayDecl) → slice_get job.arrays number ≡ Some array → is_dense job.formats array ≡ true → array.rows * array.cols ≤ MOST_WEIGHT
+weight job small number array named whole = all_at (λ (a : ArrayDecl). is_dense job.formats a ≡ true → a.rows * a.cols ≤ MOST_WEIGHT) job.arrays number array small named whole
+
+-- the subscripts of a reference to one are small
+pub reach : (job : Checked) → IsAccepted job → (ref : Ref) (x : List ℤ) → IsNamed job ref x → (value_at ref.row x <ℤ pos 4194305) × (value_at ref.col x <ℤ pos 4194305)
+reach job accepted ref x is =
+    let (rows, cols) = sides job accepted ref.array is.array is.named in
+    let row = is.row_high in
+    let col = is.col_high in
+    (omega (arith, ints, row, rows), omega (arith, ints, col, cols))
+
 -- an array's place, and its size
 module _ (job : Checked) (places : Places) (ranks : List ℕ) (rank : ℕ) (at : IsAtRank job places ranks rank) (number : ℕ) (array : ArrayDecl) (named : slice_get job.arrays number ≡ Some array) where
   array_is : IsArrayOf job array
@@ -53,10 +68,7 @@ module _ (job : Checked) (places : Places) (ranks : List ℕ) (rank : ℕ) (at :
   extent_is = let (p, there, (e, here, size)) = array_is.place in at.placed.extents array.place p e there here ∙ size
 
   pub few : is_dense job.formats array ≡ true → array.rows * array.cols ≤ MOST_WEIGHT
-  few whole = all_at (λ (a : ArrayDecl). is_dense job.formats a ≡ true → a.rows * a.cols ≤ MOST_WEIGHT) job.arrays number array at.small named whole
-
-  pub narrow : (array.rows ≤ MOST_SIDE) × (array.cols ≤ MOST_SIDE)
-  narrow = (array_is.rows.1, array_is.cols.1)
+  few whole = weight job at.small number array named whole
 
 -- who owns the element that a reference names
 pub own_by : (job : Checked) (places : Places) (rank : ℕ) (ref : Ref) (x : List ℤ) (is : IsNamed job ref x) →
@@ -138,13 +150,7 @@ same_array arrays number a b first second = let both : Some a ≡ Some b = sym f
 
 pub high : (job : Checked) (places : Places) (ranks : List ℕ) (rank : ℕ) → IsAtRank job places ranks rank → (ref : Ref) (x : List ℤ) → IsNamed job ref x →
     (value_at ref.row x <ℤ pos 4194305) × (value_at ref.col x <ℤ pos 4194305)
-high job places ranks rank at ref x is =
-    let sides = narrow job places ranks rank at ref.array is.array is.named in
-    let rows = sides.0 in
-    let cols = sides.1 in
-    let row = is.row_high in
-    let col = is.col_high in
-    (omega (arith, ints, row, rows), omega (arith, ints, col, cols))
+high job places ranks rank at ref x is = reach job at.accepted ref x is
 
 pub if_some : {X : Type 0} (o : Option X) (P Q : X → Type 0) → ((x : X) → P x → Q x) → IfSome o P → IfSome o Q
 if_some None P Q f is = is

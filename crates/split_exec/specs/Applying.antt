@@ -1,5 +1,5 @@
 -- What `apply` needs, and what it leaves in a target.
-use Rattle.std.specs.Prelude.{◌≡◌, ℕ, ◌*◌, ◌<◌, ◌≤◌, true, List, Option, Some, None, length, slice_get, slice_index}
+use Rattle.std.specs.Prelude.{◌≡◌, ℕ, ◌*◌, ◌<◌, ◌≤◌, true, List, Option, Some, None, length, map, slice_get, slice_index}
 use Rattle.std.specs.List.{Contains}
 use Rattle.bern_base.specs.declared.job.ArrayDecl.{ArrayDecl}
 use Rattle.bern_base.specs.declared.job.Checked.{Checked}
@@ -10,6 +10,7 @@ use Rattle.job_model.specs.Accepted.{IsNestOf}
 use Rattle.job_model.specs.Points.{box_of}
 use Rattle.pass_model.specs.Local.{IsOwn, local_element, own_size}
 use Rattle.pass_model.specs.Sums.{applied, home_points, is_written}
+use Rattle.placement.specs.Placement.{Triple}
 use Rattle.term_model.specs.Answers.{Places}
 use Rattle.split_exec.specs.Settings.{IsAtRank}
 
@@ -36,6 +37,10 @@ pub record CanApply (job : Checked) (places : Places) (ranks : List ℕ) (nest :
   pub nest_is : Contains job.nests nest
   pub count : (array : ArrayDecl) → slice_get job.arrays nest.target.array ≡ Some array → sums ≡ own_size places array rank
   pub elements : (array : ArrayDecl) → slice_get job.arrays nest.target.array ≡ Some array → HasSize target (own_size places array rank)
+
+-- the same, by the places as the calls have them
+abbrev pub CanApplyAt : {P : Type 0} → (P → List Triple) → (P → ℕ) → Checked → List P → Nest → ℕ → List ℕ → Option Grid → Type 0
+CanApplyAt triples ranks job places nest rank sums target = CanApply job (map triples places) (map ranks places) nest rank (length sums) target
 
 -- each element of the target that the rank owns has become what its old value and its sum make of it; all else of the part stays
 pub record IsApplied (job : Checked) (places : Places) (nest : Nest) (rank : ℕ) (sums : List ℕ) (old new : Option Grid) : Type 0 where

@@ -40,18 +40,22 @@ counts job places nest rank x = home_of job places nest x == rank && meets nest.
 
 -- none of the points of the box with these first values is at home at the rank
 abbrev pub NoneAtHome : Checked → Places → Nest → ℕ → ℕ → List ℤ → Type 0
-NoneAtHome job places nest rank depth values = (x : List ℤ) → IsInBox (spans_of nest.vars) x → AreAlike depth values x → (home_of job places nest x == rank) ≡ false
+NoneAtHome job places nest rank depth values =
+    (x : List ℤ) → IsInBox (spans_of nest.vars) x → AreAlike depth values x → (home_of job places nest x == rank) ≡ false
 
 -- none of the points of the box with these first values counts
 abbrev pub NoneCounts : Checked → Places → Nest → ℕ → ℕ → List ℤ → Type 0
-NoneCounts job places nest rank depth values = (x : List ℤ) → IsInBox (spans_of nest.vars) x → AreAlike depth values x → counts job places nest rank x ≡ false
+NoneCounts job places nest rank depth values =
+    (x : List ℤ) → IsInBox (spans_of nest.vars) x → AreAlike depth values x → counts job places nest rank x ≡ false
 
 -- of these points, those that count write the element with this number in the part
 abbrev pub written_by : Checked → Places → Nest → ℕ → List (List ℤ) → ℕ → Bool
 written_by job places nest rank xs k = list_any (λ x. spot job places rank x nest.target == k) (filter (counts job places nest rank) xs)
 
 -- each element that they write has its sum, the others are as they were, and so is all else of the part
-pub record Replaces (job : Checked) (places : Places) (nest : Nest) (rank : ℕ) (sums : List ℕ) (old new : Option Grid) (xs : List (List ℤ)) : Type 0 where
+pub record Replaces
+    (job : Checked) (places : Places) (nest : Nest) (rank : ℕ) (sums : List ℕ) (old new : Option Grid) (xs : List (List ℤ)) : Type 0 where
   pub values : List ℕ
   pub alike : new ≡ with_values old values
-  pub each : (k : ℕ) → HasElement old k → value_of_element new k ≡ (if written_by job places nest rank xs k then slice_index sums k else value_of_element old k)
+  pub each : (k : ℕ) → HasElement old k →
+      value_of_element new k ≡ (if written_by job places nest rank xs k then slice_index sums k else value_of_element old k)

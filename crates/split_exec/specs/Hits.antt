@@ -13,7 +13,7 @@ use Rattle.job_model.specs.Runnable.{is_dense}
 use Rattle.job_model.specs.Values.{product_of}
 use Rattle.pass_model.specs.Interior.{is_interior}
 use Rattle.pass_model.specs.Local.{local_at, triples_in}
-use Rattle.placement.specs.Placement.{owned_of}
+use Rattle.placement.specs.Placement.{Triple, owned_of, owner_of}
 use Rattle.plan_courses.specs.JobCourses.{ref_at}
 use Rattle.term_model.specs.declared.term.Term.{Term}
 use Rattle.term_model.specs.Answers.{Places, home_of}
@@ -24,7 +24,8 @@ use Rattle.split_exec.specs.Settings.{Setting, grid_in, tree_in}
 -- the number, in the rank's part, of the element that a reference names at a point
 abbrev pub spot_in : Places → Option ArrayDecl → ℕ → Ref → List ℤ → ℕ
 spot_in places None rank ref point = 0
-spot_in places (Some array) rank ref point = local_at (triples_in places array) array rank (natural (value_at ref.row point)) (natural (value_at ref.col point))
+spot_in places (Some array) rank ref point =
+    local_at (triples_in places array) array rank (natural (value_at ref.row point)) (natural (value_at ref.col point))
 
 abbrev pub spot : Checked → Places → ℕ → List ℤ → Ref → ℕ
 spot job places rank point ref = spot_in places (slice_get job.arrays ref.array) rank ref point
@@ -39,13 +40,18 @@ leaf_at s t h r = (tree_in s (ref_at t r).array).value (node_of h r)
 abbrev pub leaves_at : Setting → Term → Hit → List ℕ
 leaves_at s t h = map (leaf_at s t h) (range_with_len 0 (length t.sparse))
 
+-- the factor of a term times its dense references at a point
+abbrev pub dense_value : Setting → ℕ → Term → List ℤ → ℕ
+dense_value s rank t point = t.factor * product_of (map (cell_at s rank point) t.dense)
+
 -- the value of a term at a hit, before it is reduced
 abbrev pub hit_value : Setting → ℕ → Term → Hit → ℕ
-hit_value s rank t h = t.factor * product_of (map (cell_at s rank h.point) t.dense) * product_of (leaves_at s t h)
+hit_value s rank t h = dense_value s rank t h.point * product_of (leaves_at s t h)
 
 -- what a hit adds to the sum of one element of the target: its value where it is an interior one with that target
 abbrev pub hit_adds : Setting → ℕ → Term → ℕ → Hit → ℕ
-hit_adds s rank t k h = if is_interior s.job s.places rank t h.point && (spot s.job s.places rank h.point s.nest.target == k) then hit_value s rank t h else 0
+hit_adds s rank t k h =
+    if is_interior s.job s.places rank t h.point && (spot s.job s.places rank h.point s.nest.target == k) then hit_value s rank t h else 0
 
 abbrev pub hits_add : Setting → ℕ → Term → List Hit → ℕ → ℕ
 hits_add s rank t hits k = sum_by (hit_adds s rank t k) hits
@@ -73,7 +79,8 @@ pub record IsNamed (job : Checked) (ref : Ref) (point : List ℤ) : Type 0 where
 
 -- a rank owns all of the array that a reference names
 abbrev pub OwnsWhole : Checked → Places → ℕ → Ref → Type 0
-OwnsWhole job places rank ref = (array : ArrayDecl) → slice_get job.arrays ref.array ≡ Some array → owned_of (triples_in places array) rank ≡ length (triples_in places array)
+OwnsWhole job places rank ref = (array : ArrayDecl) → slice_get job.arrays ref.array ≡ Some array →
+    owned_of (triples_in places array) rank ≡ length (triples_in places array)
 
 -- what is left to add to the sums makes of them what all of it makes of the first ones
 pub record Owe (now : List ℕ) (left : ℕ → ℕ) (first : List ℕ) (all : ℕ → ℕ) : Type 0 where
@@ -83,3 +90,7 @@ pub record Owe (now : List ℕ) (left : ℕ → ℕ) (first : List ℕ) (all : �
 -- the index of an element on the axis along which its array is split
 abbrev pub split_index : ArrayDecl → ℕ → ℕ → ℕ
 split_index array row col = if is_col array.axis then col else row
+
+-- the rank owns this index of a split axis, and the element in this row and column has this number in its part
+abbrev pub IsOwnNumber : List Triple → ArrayDecl → ℕ → ℕ → ℕ → ℕ → ℕ → Type 0
+IsOwnNumber ts array rank index row col number = (owner_of ts index ≡ rank) × (number ≡ local_at ts array rank row col)

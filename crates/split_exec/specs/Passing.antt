@@ -33,7 +33,8 @@ AddsInterior s rank planned old new =
     (entries : Entries) (state : State) → ShowState s entries state rank →
     (array : ArrayDecl) → slice_get s.job.arrays s.nest.target.array ≡ Some array → (n : ℕ) → IsOwn s.places array rank n →
     slice_index new (local_element s.places array rank n)
-    ≡ ring_add (slice_index old (local_element s.places array rank n)) (interior_sum s.job entries s.places state s.nest rank n (map (λ p. p.term) planned))
+    ≡ ring_add (slice_index old (local_element s.places array rank n))
+    (interior_sum s.job entries s.places state s.nest rank n (map (λ p. p.term) planned))
 
 -- the most steps that visits of these terms take
 abbrev pub pass_budget : Setting → ℕ → List PlannedTerm → ℕ

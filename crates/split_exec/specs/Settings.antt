@@ -33,7 +33,8 @@ pub record Setting : Type 0 where
   pub trees : List Tree
   pub grids : List (Option Grid)
 
-abbrev pub setting : {P V : Type 0} → (P → List Triple) → (P → ℕ) → (V → Tree) → (V → Option Grid) → Checked → List P → Nest → List V → Setting
+abbrev pub setting : {P V : Type 0} → (P → List Triple) → (P → ℕ) → (V → Tree) → (V → Option Grid) →
+    Checked → List P → Nest → List V → Setting
 setting triples ranks tree grid job places nest stores = record {
   job = job;
   places = map triples places;
@@ -69,7 +70,8 @@ pub record HaveValues (s : Setting) (entries : Entries) (state : State) (rank : 
       is_stored format.shape (entries_of entries number) row col ≡ true →
       searched (tree_in s number) (path_of format.shape array.cols row col) ≡ Some (read state number (row * array.cols + col))
   pub whole : (number : ℕ) (array : ArrayDecl) → slice_get s.job.arrays number ≡ Some array → is_dense s.job.formats array ≡ true →
-      (n : ℕ) → IsOwn s.places array rank n → value_of_element (grid_in s number) (local_element s.places array rank n) ≡ read state number n
+      (n : ℕ) → IsOwn s.places array rank n →
+      value_of_element (grid_in s number) (local_element s.places array rank n) ≡ read state number n
 
 -- the views show the rank's parts of arrays with these entries in a state
 pub record ShowState (s : Setting) (entries : Entries) (state : State) (rank : ℕ) : Type 0 where

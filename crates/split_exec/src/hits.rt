@@ -2,7 +2,7 @@ ghost use Rattle.std.specs.Prelude.{◌≡◌, ◌*◌, ◌%◌, ◌^◌, ◌∷
 ghost use Rattle.std.specs.List.{All};
 ghost use Rattle.job_model.specs.Values.{product_of};
 ghost use Rattle.pass_model.specs.Interior.{is_interior};
-ghost use Rattle.split_exec.specs.Hits.{Grow, IsSound, OwnsWhole, cell_at, hit_adds, leaves_at};
+ghost use Rattle.split_exec.specs.Hits.{Grow, IsSound, OwnsWhole, dense_value, hit_adds, leaves_at};
 ghost use Rattle.split_exec.specs.Passing.{CanPass, HasSums};
 ghost use Rattle.split_exec.specs.Settings.{setting};
 
@@ -32,7 +32,7 @@ pub(crate) fn dense_product<V: Cells, P: Placement>(
     requires whole { IsTrue whole → All (OwnsWhole job.now (map P.triples places.now) rank) planned.now.term.dense }
     ensures interior { IfSome result (λ v. is_interior job.now (map P.triples places.now) rank planned.now.term hit.now.point ≡ true) }
     ensures value { let s = setting P.triples P.ranks V.tree V.grid job.now places.now nest.now stores.now in
-        IfSome result (λ v. v % 2 ^ 64 ≡ planned.now.term.factor * product_of (map (cell_at s rank hit.now.point) planned.now.term.dense) % 2 ^ 64) }
+        IfSome result (λ v. v % 2 ^ 64 ≡ dense_value s rank planned.now.term hit.now.point % 2 ^ 64) }
     ensures boundary { IfNone result (is_interior job.now (map P.triples places.now) rank planned.now.term hit.now.point ≡ false) }
 {
     let point = Point::new(hit.point);

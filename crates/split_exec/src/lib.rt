@@ -14,4 +14,5 @@ mod replacing;
 pub use delta::Delta;
 pub use interior::inner;
 pub use laws::{boxes_of_replacing_nests_are_small, passes_sum_to_the_body};
+pub use own::{named_element, own_element, owns_whole, split_size};
 pub use replacing::apply;

@@ -1,13 +1,13 @@
 ghost use Rattle.std.specs.Prelude.{◌≡◌, ◌≢◌, ◌+◌, ◌*◌, ◌<◌, ◌≤◌, pos, ◌≤ℤ◌, ◌<ℤ◌, true, false, IfNone, IfSome, IsTrue, length, map};
 ghost use Rattle.bern_base.specs.declared.limits.TheConstants.{MOST_WEIGHT};
 ghost use Rattle.bern_base.specs.Affine.{value_at};
-ghost use Rattle.job_model.specs.Accepted.{is_col, split_size};
+ghost use Rattle.job_model.specs.Accepted.{IsAccepted, is_col, split_size};
+ghost use Rattle.job_model.specs.Elements.{element_of};
 ghost use Rattle.job_model.specs.Points.{natural};
 ghost use Rattle.pass_model.specs.Interior.{is_own};
-ghost use Rattle.pass_model.specs.Local.{local_at};
-ghost use Rattle.placement.specs.Placement.{owned_of, owner_of};
-ghost use Rattle.split_exec.specs.Hits.{IsNamed, OwnsWhole, split_index, spot};
-ghost use Rattle.split_exec.specs.Settings.{IsAtRank};
+ghost use Rattle.placement.specs.Placement.{owner_of};
+ghost use Rattle.split_exec.specs.Hits.{IsNamed, IsOwnNumber, OwnsWhole, split_index, spot};
+ghost use Rattle.split_exec.specs.Settings.{AreSmall, IsAtRank};
 
 use bern_base::{Affine, ArrayDecl, Axis, Checked, Items, Point, Ref};
 use placement::Placement;
@@ -25,7 +25,7 @@ fn number_by_row<P: Placement>(
     requires row { row < array.now.rows }
     requires col { col < array.now.cols }
     requires few { array.now.rows * array.now.cols ≤ MOST_WEIGHT }
-    ensures some { IfSome result (λ l. (owner_of (P.triples place.now) row ≡ rank) × (l ≡ local_at (P.triples place.now) array.now rank row col)) }
+    ensures some { IfSome result (IsOwnNumber (P.triples place.now) array.now rank row row col) }
     ensures none { IfNone result (owner_of (P.triples place.now) row ≢ rank) }
 {
     let seat = place.seat(row);
@@ -49,7 +49,7 @@ fn number_by_col<P: Placement>(
     requires row { row < array.now.rows }
     requires col { col < array.now.cols }
     requires few { array.now.rows * array.now.cols ≤ MOST_WEIGHT }
-    ensures some { IfSome result (λ l. (owner_of (P.triples place.now) col ≡ rank) × (l ≡ local_at (P.triples place.now) array.now rank row col)) }
+    ensures some { IfSome result (IsOwnNumber (P.triples place.now) array.now rank col row col) }
     ensures none { IfNone result (owner_of (P.triples place.now) col ≢ rank) }
 {
     let seat = place.seat(col);
@@ -72,7 +72,7 @@ fn local_number<P: Placement>(
     requires row { row < array.now.rows }
     requires col { col < array.now.cols }
     requires few { array.now.rows * array.now.cols ≤ MOST_WEIGHT }
-    ensures some { IfSome result (λ l. (owner_of (P.triples place.now) (split_index array.now row col) ≡ rank) × (l ≡ local_at (P.triples place.now) array.now rank row col)) }
+    ensures some { IfSome result (IsOwnNumber (P.triples place.now) array.now rank (split_index array.now row col) row col) }
     ensures none { IfNone result (owner_of (P.triples place.now) (split_index array.now row col) ≢ rank) }
 {
     match array.axis {
@@ -101,9 +101,21 @@ fn index_at(form: &Affine, point: &Point) -> u32
     form.eval(point) as u32
 }
 
+/// The number of the element that a reference names at a point, in its array: row * cols + col.
+pub fn named_element(job: &Checked, reference: &Ref, point: &Point) -> u32
+    requires accepted { IsAccepted job.now }
+    requires small { AreSmall job.now }
+    requires named { IsNamed job.now reference.now point.now }
+    ensures { result ≡ element_of job.now.arrays reference.now point.now }
+{
+    let array = job.arrays.at(reference.array as usize);
+    let row = index_at(&reference.row, point);
+    whole_number(array, row, index_at(&reference.col, point))
+}
+
 /// The number of the element that a reference names at a point, in the rank's part of its array; None where another rank owns it. No
 /// owner is asked for where it is known that the rank owns the array whole.
-pub(crate) fn own_element<P: Placement>(
+pub fn own_element<P: Placement>(
     job: &Checked,
     places: &Items<P>,
     rank: u32,
@@ -118,9 +130,33 @@ pub(crate) fn own_element<P: Placement>(
     ensures spot { IfSome result (λ l. l ≡ spot job.now (map P.triples places.now) rank point.now reference.now) }
     ensures none { IfNone result (is_own job.now (map P.triples places.now) rank point.now reference.now ≡ false) }
 {
-    let array = job.arrays.at(reference.array as usize);
     let row = index_at(&reference.row, point);
     let col = index_at(&reference.col, point);
+    own_number(job, places, rank, whole, reference, point, row, col)
+}
+
+/// The same where the element's row and column are known already.
+#[inline(always)]
+pub(crate) fn own_number<P: Placement>(
+    job: &Checked,
+    places: &Items<P>,
+    rank: u32,
+    whole: bool,
+    reference: &Ref,
+    _point: &Point,
+    row: u32,
+    col: u32,
+) -> Option<u32>
+    requires at { IsAtRank job.now (map P.triples places.now) (map P.ranks places.now) rank }
+    requires named { IsNamed job.now reference.now _point.now }
+    requires whole { IsTrue whole → OwnsWhole job.now (map P.triples places.now) rank reference.now }
+    requires row { row ≡ natural (value_at reference.now.row _point.now) }
+    requires col { col ≡ natural (value_at reference.now.col _point.now) }
+    ensures own { IfSome result (λ l. is_own job.now (map P.triples places.now) rank _point.now reference.now ≡ true) }
+    ensures spot { IfSome result (λ l. l ≡ spot job.now (map P.triples places.now) rank _point.now reference.now) }
+    ensures none { IfNone result (is_own job.now (map P.triples places.now) rank _point.now reference.now ≡ false) }
+{
+    let array = job.arrays.at(reference.array as usize);
     if whole {
         return Some(whole_number(array, row, col));
     }
@@ -129,7 +165,7 @@ pub(crate) fn own_element<P: Placement>(
 }
 
 /// Whether it is known that a rank owns all of the array that a reference names.
-pub(crate) fn owns_whole<P: Placement>(
+pub fn owns_whole<P: Placement>(
     job: &Checked,
     places: &Items<P>,
     rank: u32,
@@ -146,7 +182,7 @@ pub(crate) fn owns_whole<P: Placement>(
 }
 
 /// How many indices the axis has along which an array is split.
-pub(crate) fn split_size(array: &ArrayDecl) -> u32
+pub fn split_size(array: &ArrayDecl) -> u32
     ensures { result ≡ split_size array.now }
 {
     match array.axis {

@@ -1,7 +1,7 @@
 ghost use Rattle.std.specs.Prelude.{◌≡◌, ◌≤◌, length, map};
 ghost use Rattle.bern_base.specs.declared.limits.TheConstants.{MOST_WEIGHT};
 ghost use Rattle.format_model.specs.Grids.{SameBranches};
-ghost use Rattle.split_exec.specs.Applying.{CanApply, HasSize, IsAdded, IsApplied};
+ghost use Rattle.split_exec.specs.Applying.{CanApplyAt, HasSize, IsAdded, IsApplied};
 
 use crate::boxes::write_box;
 use crate::delta::Delta;
@@ -21,7 +21,7 @@ pub fn apply<P: Placement, D: Cells>(
     delta: &Delta,
     target: &mut D,
 )
-    requires { CanApply job.now (map P.triples places.now) (map P.ranks places.now) nest.now rank (length delta.now) (D.grid target.old) }
+    requires { CanApplyAt P.triples P.ranks job.now places.now nest.now rank delta.now (D.grid target.old) }
     ensures applied { IsApplied job.now (map P.triples places.now) nest.now rank delta.now (D.grid target.old) (D.grid target.new) }
     ensures branches { SameBranches (D.tree target.old) (D.tree target.new) }
 {

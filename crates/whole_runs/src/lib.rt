@@ -9,4 +9,6 @@ mod running;
 mod stores;
 mod turns;
 
+pub use places::whole_places;
 pub use running::run_whole;
+pub use stores::whole_stores;

@@ -7,7 +7,7 @@ use placement::{AnyPlace, Cyclic};
 use std::alloc::Global;
 
 /// A place for each place line, which gives all indices to one rank.
-pub(crate) fn whole_places(alloc: Global, job: &Checked) -> Result<Items<AnyPlace>, NoMemory>
+pub fn whole_places(alloc: Global, job: &Checked) -> Result<Items<AnyPlace>, NoMemory>
     requires { IsAccepted job.now }
     ensures { IfOk result (AreWhole job.now) }
 {

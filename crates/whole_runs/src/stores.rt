@@ -9,7 +9,7 @@ use placement::Part;
 use std::alloc::Global;
 
 /// A store for each array of a job, of its whole matrix. Each matrix is given up as soon as its store stands.
-pub(crate) fn whole_stores(
+pub fn whole_stores(
     alloc: Global,
     job: &Checked,
     matrices: Items<Matrix>,

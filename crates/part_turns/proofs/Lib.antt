@@ -1,0 +1,3 @@
+pub mod HomeSums
+pub mod ShowLemmas
+pub mod TurnLemmas

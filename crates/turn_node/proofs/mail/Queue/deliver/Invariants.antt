@@ -1,0 +1,5 @@
+-- All speak of one run.
+use Rattle.turn_node.proofs.mail.Queue.deliver.Given as goal
+
+abbrev pub ghost-take : goal.ghost-take
+ghost-take g a = g.run

@@ -1,0 +1,5 @@
+-- All speak of one run.
+use Rattle.turn_node.proofs.progress.Progress.take.Given as goal
+
+abbrev pub ghost-settled : goal.ghost-settled
+ghost-settled g a = g.run
