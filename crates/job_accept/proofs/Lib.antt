@@ -1,3 +1,4 @@
+pub mod AmongLemmas
 pub mod ReadableLemmas
 pub mod AnswerLemmas
 pub mod OffsetLemmas

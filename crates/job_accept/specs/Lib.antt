@@ -1,4 +1,5 @@
 pub mod Axes
 pub mod Front
 pub mod Offsets
+pub mod Places
 pub mod Variables

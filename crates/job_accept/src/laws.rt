@@ -4,6 +4,7 @@ ghost use Rattle.job_model.specs.Accepted.{IsAccepted};
 ghost use Rattle.job_accept.specs.Axes.{OuterAxesAreOne, SplitAxesAreOne};
 ghost use Rattle.job_accept.specs.Front.{AcceptsBytes, BytesHaveOneAnswer};
 ghost use Rattle.job_accept.specs.Offsets.{OffsetsRise};
+ghost use Rattle.job_accept.specs.Places.{PlacesStandAmongArrays};
 ghost use Rattle.job_accept.specs.Variables.{NestsHaveVariables};
 
 /// The law that bytes have one answer of [`take_job`](crate::take_job): one job, or one line and rule, and never both. It
@@ -39,4 +40,10 @@ pub fn split_axes_are_one()
 /// The law that each nest has a loop variable in what bytes are accepted as: a line with none has no form. It does nothing.
 pub fn nests_have_variables()
     ensures { NestsHaveVariables }
+{}
+
+/// The law that each place was declared after some of the arrays in what bytes are accepted as: as many as stand before its line.
+/// It does nothing.
+pub fn places_stand_among_arrays()
+    ensures { PlacesStandAmongArrays }
 {}

@@ -9,5 +9,5 @@ mod laws;
 pub use front::{take_job, too_long};
 pub use laws::{
     accepted_bytes_keep_the_rules, bytes_have_one_answer, nests_have_variables,
-    offsets_of_diagonals_rise, outer_axes_are_one, split_axes_are_one,
+    offsets_of_diagonals_rise, outer_axes_are_one, places_stand_among_arrays, split_axes_are_one,
 };

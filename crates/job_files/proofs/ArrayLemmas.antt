@@ -1,7 +1,7 @@
 -- The matrices of all arrays, from those of the arrays that are read from a file.
-use Rattle.std.proofs.Common.{◌≡◌, ℕ, suc, ◌+◌, ◌<◌, ◌==◌, Bool, true, false, cond, length, filter, get_or, drop, drop-cons, add-one, append_assoc, List, [], ◌∷◌, ◌++◌, ℤ, Option, Some, None, is_some, refl, sym, ap, ◌∙◌, subst, arith}
-use Rattle.std.specs.List.{AllZip, flat_map, slice_get}
-use Rattle.std.proofs.lemmas.List.Elements.{filter-append}
+use Rattle.std.proofs.Common.{◌≡◌, ℕ, suc, ◌+◌, ◌<◌, ◌≤◌, ◌==◌, Bool, true, false, cond, length, filter, get_or, drop, drop-cons, add-one, append_assoc, List, [], ◌∷◌, ◌++◌, ℤ, Option, Some, None, is_some, refl, sym, ap, ◌∙◌, subst, arith}
+use Rattle.std.specs.List.{All, AllZip, flat_map, slice_get}
+use Rattle.std.proofs.lemmas.List.Elements.{All-cons, All-head, All-nil, All-tail, filter-append}
 use Rattle.bern_base.specs.declared.job.ArrayDecl.{ArrayDecl}
 use Rattle.bern_base.specs.declared.job.Checked.{Checked}
 use Rattle.bern_base.specs.declared.job.ExtentDecl.{ExtentDecl}
@@ -9,10 +9,11 @@ use Rattle.bern_base.specs.declared.job.FormatDecl.{FormatDecl}
 use Rattle.bern_base.specs.declared.job.PlaceDecl.{PlaceDecl}
 use Rattle.bern_base.specs.declared.job.PlaceKind.{PlaceKind}
 use Rattle.bern_base.specs.declared.job.PlaceKind.TheVariants as kind
+use Rattle.bern_base.specs.declared.limits.TheConstants.{MOST_WEIGHT}
 use Rattle.bern_base.specs.declared.matrix.Matrix.{Matrix}
 use Rattle.bern_ports.specs.Files.{Files}
 use Rattle.format_model.specs.Checks.{sizes_rule}
-use Rattle.job_files.specs.FileOrder.{IsArrayIn, IsForUse, IsOfUse, astray_rule}
+use Rattle.job_files.specs.FileOrder.{HasRoom, IsArrayIn, IsForUse, IsOfUse, astray_rule}
 use Rattle.job_files.proofs.ServingLemmas.{none_first, suits}
 use Rattle.job_files.specs.Uses.{array_matrices, entries_from, entries_in, entries_of, entries_read, diagonals_of, file_use, has_file, is_array, kind_use, left_by, matrices_from, order_of, order_use, place_use, places_after, size_of, spread, taken, uses_by, uses_from, uses_of, with_entries}
 use Rattle.job_files.specs.declared.uses.Use.{Use}
@@ -227,3 +228,29 @@ pub zip_job : (P : Use → Matrix → Type 0) (ranks : ℕ) (job : Checked) (use
     AllZip P (own_uses job.formats job.arrays) (array_matrices uses loaded)
 zip_job P ranks job uses loaded are zip =
     subst (λ us. AllZip P us (array_matrices uses loaded)) (ap (filter is_array) are ∙ own_of_job ranks job) (zip_own P uses loaded zip)
+
+-- ---- matrices that keep the limit beside the weight of the arrays
+
+own_room : (weight : ℕ) (uses : List Use) (ms : List Matrix) → All (HasRoom weight) ms → All (HasRoom weight) (array_matrices uses ms)
+own_room weight [] ms all = All-nil (HasRoom weight)
+own_room weight (u ∷ uses) [] all = All-nil (HasRoom weight)
+own_room weight (u ∷ uses) (m ∷ ms) all =
+    let later = own_room weight uses ms (All-tail (HasRoom weight) m ms all) in
+    elim (is_array u) as (λ b. All (HasRoom weight) (cond b (m ∷ array_matrices uses ms) (array_matrices uses ms))) [
+      | true ↦ All-cons (HasRoom weight) m (array_matrices uses ms) (All-head (HasRoom weight) m ms all) later
+      | false ↦ later
+    ]
+
+taken_room : (weight : ℕ) (array : ArrayDecl) (arrays : List ArrayDecl) (file : Option (List ℕ)) (ms : List Matrix) → weight ≤ MOST_WEIGHT → ((ns : List Matrix) → All (HasRoom weight) ns → All (HasRoom weight) (spread arrays ns)) →
+    All (HasRoom weight) ms → All (HasRoom weight) (taken array file ms ∷ spread arrays (left_by file ms))
+taken_room weight array arrays None ms light rest all = All-cons (HasRoom weight) (with_entries array []) (spread arrays ms) (omega (arith, light)) (rest ms all)
+taken_room weight array arrays (Some file) [] light rest all = All-cons (HasRoom weight) (with_entries array []) (spread arrays []) (omega (arith, light)) (rest [] all)
+taken_room weight array arrays (Some file) (m ∷ ms) light rest all =
+    All-cons (HasRoom weight) m (spread arrays ms) (All-head (HasRoom weight) m ms all) (rest ms (All-tail (HasRoom weight) m ms all))
+
+spread_room : (weight : ℕ) (arrays : List ArrayDecl) (ms : List Matrix) → weight ≤ MOST_WEIGHT → All (HasRoom weight) ms → All (HasRoom weight) (spread arrays ms)
+spread_room weight [] ms light all = All-nil (HasRoom weight)
+spread_room weight (array ∷ arrays) ms light all = taken_room weight array arrays array.file ms light (λ ns each. spread_room weight arrays ns light each) all
+
+pub arrays_room : (weight : ℕ) (uses : List Use) (loaded : List Matrix) (arrays : List ArrayDecl) → weight ≤ MOST_WEIGHT → All (HasRoom weight) loaded → All (HasRoom weight) (spread arrays (array_matrices uses loaded))
+arrays_room weight uses loaded arrays light all = spread_room weight arrays (array_matrices uses loaded) light (own_room weight uses loaded all)

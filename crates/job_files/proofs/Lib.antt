@@ -10,3 +10,4 @@ pub mod ArrayLemmas
 pub mod JobLemmas
 pub mod ShapeLemmas
 pub mod OrderLemmas
+pub mod PlaceListLemmas

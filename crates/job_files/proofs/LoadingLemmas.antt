@@ -80,10 +80,15 @@ judged_by uses name m rule (e.ReadFault file) broken is = absurd is
 judged_by uses name m rule e.NoMemory broken is = tt
 
 -- what is taken breaks no rule, and keeps the limit with its entries
-pub fit_taken : (uses : List Use) (weight : ℕ) (name : List ℕ) (m : Matrix) (result : Result Loaded LoadError) → IsMatrix m → IsTaken uses weight name m result → IfOk result (λ l. IsFit uses name l.matrix)
+pub fit_taken : (uses : List Use) (weight : ℕ) (name : List ℕ) (m : Matrix) (result : Result Loaded LoadError) → IsMatrix m → IsTaken uses weight name m result → IfOk result (λ l. IsFit weight uses name l.matrix)
 fit_taken uses weight name m (Ok l) is taken = record {
   matrix = subst IsMatrix (sym taken.0.0) is;
   fits = taken.0.1;
-  light = subst (λ n. added uses name n ≤ MOST_WEIGHT) (sym taken.0.0) (omega (arith, taken.1.1, taken.1.2));
+  light = subst (λ n. weight + added uses name n ≤ MOST_WEIGHT) (sym taken.0.0) (omega (arith, taken.1.1, taken.1.2));
 }
 fit_taken uses weight name m (Err fault) is taken = tt
+
+-- and the weight does not fall
+pub grows_taken : (uses : List Use) (weight : ℕ) (name : List ℕ) (m : Matrix) (result : Result Loaded LoadError) → IsTaken uses weight name m result → IfOk result (λ l. weight ≤ l.weight)
+grows_taken uses weight name m (Ok l) taken = omega (arith, taken.1.1)
+grows_taken uses weight name m (Err fault) taken = tt

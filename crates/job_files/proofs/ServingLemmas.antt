@@ -1,10 +1,10 @@
 -- LoadsUses over uses, from the matrices and the weight of the first ones.
 use Rattle.std.proofs.Common.{◌≡◌, ℕ, zero, suc, ◌+◌, ◌*◌, ◌<◌, ◌≤◌, Bool, true, false, ◌||◌, ◌==◌, not, cond, nat_lt, if◌then◌else◌, List, [], ◌∷◌, ◌++◌, length, get_or, take, drop, Option, Some, None, is_some, Result, Ok, Err, length-append, add-one, sym, ap, ◌∙◌, subst, refl, arith}
-use Rattle.std.specs.List.{AllZip, count_by, list_any, position, position_or_len, slice_get}
+use Rattle.std.specs.List.{All, AllZip, count_by, list_any, position, position_or_len, slice_get}
 use Rattle.std.proofs.lemmas.Bool.{and_parts, lt-ltb}
 use Rattle.std.proofs.lemmas.Bool.Decides.{Decides-eqb, nat_tests}
-use Rattle.std.proofs.Math.Nat.{le_trans}
 use Rattle.std.proofs.Math.Seq.{take-length}
+use Rattle.std.proofs.lemmas.List.Elements.{All-cons, All-nil}
 use Rattle.std.proofs.lemmas.List.Quantifiers.{position-Some}
 use Rattle.std.proofs.lemmas.List.Sums.{sum_by-cons}
 use Rattle.std.proofs.lemmas.Option.{slice_get-get_or, slice_get_read}
@@ -22,7 +22,7 @@ use Rattle.job_files.specs.declared.serving.Loaded.{Loaded}
 use Rattle.job_files.specs.Uses.{file_of, is_of, mentioned}
 use Rattle.job_files.specs.Serving.{Beside, IsServedSoFar, IsFit, IsFitFor, IsServed, Serves, beside_first, is_known}
 use Rattle.format_model.specs.Checks.{first_of, has_sizes, sizes_rule}
-use Rattle.job_files.specs.FileOrder.{IsForUse, IsOfUse, LoadsUses, Refused, Suits, astray_rule, broken_in, broken_rule, first_broken, found, has, judged, served, stop_of, stops, weight_after}
+use Rattle.job_files.specs.FileOrder.{HasRoom, IsForUse, IsOfUse, LoadsUses, Refused, Suits, astray_rule, broken_in, broken_rule, first_broken, found, has, judged, served, stop_of, stops, weight_after}
 use Rattle.job_files.proofs.MentionLemmas.{around, mentioned_again, mentioned_first}
 use Rattle.job_files.proofs.WeightLemmas.{stops_at, weight_more}
 
@@ -54,9 +54,9 @@ first_is P uses ms name m (Some k) beside at there =
     (get_or uses k none, (bytes_eq-Decides (file_of (get_or uses k none)) name).0 p.1, beside_at P uses ms k (get_or uses k none) m beside (slice_get-get_or uses k none p.0) there)
 
 -- a matrix that stands beside the first use of a file is the file's
-pub fit_again : (all uses : List Use) (ms : List Matrix) (name : List ℕ) (m : Matrix) → Beside (IsFitFor all) uses ms → beside_first ms (position (is_of name) uses) ≡ Some m → IsFit all name m
-fit_again all uses ms name m beside there =
-    let known = first_is (IsFitFor all) uses ms name m (position (is_of name) uses) beside refl there in subst (λ n. IsFit all n m) known.1 known.2
+pub fit_again : (weight : ℕ) (all uses : List Use) (ms : List Matrix) (name : List ℕ) (m : Matrix) → Beside (IsFitFor weight all) uses ms → beside_first ms (position (is_of name) uses) ≡ Some m → IsFit weight all name m
+fit_again weight all uses ms name m beside there =
+    let known = first_is (IsFitFor weight all) uses ms name m (position (is_of name) uses) beside refl there in subst (λ n. IsFit weight all n m) known.1 known.2
 
 pub served_again : (files : Files) (all uses : List Use) (ms : List Matrix) (name : List ℕ) (m : Matrix) → Beside (IsServed files all) uses ms → beside_first ms (position (is_of name) uses) ≡ Some m → served files all name ≡ Ok m
 served_again files all uses ms name m beside there =
@@ -209,22 +209,33 @@ no_less (suc count) entries some = omega arith
 of_first : (all uses : List Use) (u : Use) (m : Matrix) → AreLast all (u ∷ uses) → first_broken (file_of u) m all ≡ None → broken_rule m u ≡ None
 of_first all uses u m last fits = own_fits u m (none_first (broken_in (file_of u) m u) (first_broken (file_of u) m uses) (last.fits (file_of u) m fits)).0
 
-are_for_uses : (all uses : List Use) (ms : List Matrix) → AreLast all uses → Beside (IsFitFor all) uses ms → length ms ≡ length uses → AllZip IsForUse uses ms
-are_for_uses all [] [] last beside same = tt
-are_for_uses all [] (m ∷ ms) last beside same = absurd beside
-are_for_uses all (u ∷ uses) [] last beside same = absurd (omega (arith, same))
-are_for_uses all (u ∷ uses) (m ∷ ms) last beside same = (
+are_for_uses : (weight : ℕ) (all uses : List Use) (ms : List Matrix) → AreLast all uses → Beside (IsFitFor weight all) uses ms → length ms ≡ length uses → AllZip IsForUse uses ms
+are_for_uses weight all [] [] last beside same = tt
+are_for_uses weight all [] (m ∷ ms) last beside same = absurd beside
+are_for_uses weight all (u ∷ uses) [] last beside same = absurd (omega (arith, same))
+are_for_uses weight all (u ∷ uses) (m ∷ ms) last beside same = (
   record {
     matrix = beside.0.matrix;
     fits = of_first all uses u m last beside.0.fits;
-    light = le_trans (no_less (count_by (is_of (file_of u)) all) (length m.entries) (some_use all uses u last)) beside.0.light;
+    light = let less = no_less (count_by (is_of (file_of u)) all) (length m.entries) (some_use all uses u last) in let most = beside.0.light in omega (arith, less, most);
   },
-  are_for_uses all uses ms (later_last all uses u last) beside.1 (omega (arith, same)),
+  are_for_uses weight all uses ms (later_last all uses u last) beside.1 (omega (arith, same)),
 )
 
 -- each use has a matrix that suits it
-pub all_for_uses : (uses : List Use) (ms : List Matrix) → Beside (IsFitFor uses) uses ms → length ms ≡ length uses → AllZip IsForUse uses ms
-all_for_uses uses ms beside same = are_for_uses uses uses ms (record { fits = λ name m fits. fits; fewer = λ name. omega arith }) beside same
+pub all_for_uses : (weight : ℕ) (uses : List Use) (ms : List Matrix) → Beside (IsFitFor weight uses) uses ms → length ms ≡ length uses → AllZip IsForUse uses ms
+all_for_uses weight uses ms beside same = are_for_uses weight uses uses ms (record { fits = λ name m fits. fits; fewer = λ name. omega arith }) beside same
+
+-- and keeps the limit beside the weight of the arrays
+have_room : (weight : ℕ) (all uses : List Use) (ms : List Matrix) → AreLast all uses → Beside (IsFitFor weight all) uses ms → All (HasRoom weight) ms
+have_room weight all uses [] last beside = All-nil (HasRoom weight)
+have_room weight all [] (m ∷ ms) last beside = absurd beside
+have_room weight all (u ∷ uses) (m ∷ ms) last beside =
+    let less = no_less (count_by (is_of (file_of u)) all) (length m.entries) (some_use all uses u last) in
+    let most = beside.0.light in All-cons (HasRoom weight) m ms (omega (arith, less, most)) (have_room weight all uses ms (later_last all uses u last) beside.1)
+
+pub all_have_room : (weight : ℕ) (uses : List Use) (ms : List Matrix) → Beside (IsFitFor weight uses) uses ms → All (HasRoom weight) ms
+all_have_room weight uses ms beside = have_room weight uses uses ms (record { fits = λ name m fits. fits; fewer = λ name. omega arith }) beside
 
 -- a matrix with which a file serves all of its uses is that of each of them
 of_use : (files : Files) (all uses : List Use) (u : Use) (m : Matrix) → AreLast all (u ∷ uses) → served files all (file_of u) ≡ Ok m → IsOfUse files u m

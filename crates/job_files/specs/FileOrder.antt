@@ -130,6 +130,10 @@ pub record IsForUse (u : Use) (m : Matrix) : Type 0 where
   pub fits : broken_rule m u ≡ None
   pub light : length m.entries ≤ MOST_WEIGHT
 
+-- the entries of a matrix keep the limit beside so much weight
+abbrev pub HasRoom : ℕ → Matrix → Type 0
+HasRoom weight m = weight + length m.entries ≤ MOST_WEIGHT
+
 -- the matrix of an array of a job, without a value off the diagonals that its format lists
 pub record IsArrayIn (formats : List FormatDecl) (array : ArrayDecl) (m : Matrix) : Type 0 where
   pub is : IsArray array m

@@ -4,4 +4,5 @@ pub mod Answers
 pub mod FileOrder
 pub mod Serving
 pub mod Laws
+pub mod PlaceLists
 pub mod RowOrders

@@ -21,14 +21,14 @@ Beside P uses [] = ⊤
 Beside P [] (m ∷ ms) = ⊥
 Beside P (u ∷ uses) (m ∷ ms) = P u m × Beside P uses ms
 
--- a matrix that breaks no rule in the uses of this file, and keeps the limit with its entries for each of them
-pub record IsFit (uses : List Use) (name : List ℕ) (m : Matrix) : Type 0 where
+-- a matrix that breaks no rule in the uses of this file, and keeps the limit with its entries for each of them beside so much weight
+pub record IsFit (weight : ℕ) (uses : List Use) (name : List ℕ) (m : Matrix) : Type 0 where
   pub matrix : IsMatrix m
   pub fits : first_broken name m uses ≡ None
-  pub light : added uses name m ≤ MOST_WEIGHT
+  pub light : weight + added uses name m ≤ MOST_WEIGHT
 
-abbrev pub IsFitFor : List Use → Use → Matrix → Type 0
-IsFitFor uses u m = IsFit uses (file_of u) m
+abbrev pub IsFitFor : ℕ → List Use → Use → Matrix → Type 0
+IsFitFor weight uses u m = IsFit weight uses (file_of u) m
 
 -- the matrix of a use, over told files
 abbrev pub IsServed : Files → List Use → Use → Matrix → Type 0

@@ -3,11 +3,13 @@ ghost use Rattle.bern_base.specs.declared.limits.TheConstants.{MOST_WEIGHT};
 ghost use Rattle.std.specs.List.{All, AllZip};
 ghost use Rattle.bern_ports.specs.Frames.{KeepsShelf, shelf_state};
 ghost use Rattle.job_files.specs.Answers.{HasFaultCause};
-ghost use Rattle.job_files.specs.FileOrder.{IsArrayIn, IsForUse, Loads};
+ghost use Rattle.job_files.specs.FileOrder.{HasRoom, IsArrayIn, IsForUse, Loads};
+ghost use Rattle.job_files.specs.PlaceLists.{AreAmong, HasListsIn, IsLineFrom, IsPlaceList};
 ghost use Rattle.job_files.specs.RowOrders.{HasOrderUse, IsRowOrder, matrices_in};
 ghost use Rattle.job_files.specs.Uses.{array_matrices, has_file, spread, unplaced, uses_of, with_places};
 ghost use Rattle.job_files.specs.Weight.{weight_of};
 
+use crate::lists::place_lists;
 use crate::load_error::{LoadError, refusal};
 use crate::mentions::uses_of;
 use crate::orders::row_orders;
@@ -16,6 +18,7 @@ use crate::uses::Use;
 use crate::weights::weight_within;
 use bern_base::{ArrayDecl, Checked, Items, Matrix, NoMemory, PlaceDecl, Rule, Text};
 use bern_ports::Shelf;
+use placement::Listed;
 use std::alloc::Global;
 
 /// What the arrays of a job begin with, by their numbers.
@@ -26,6 +29,8 @@ pub struct ArrayFiles {
     /// The order of its rows for each array whose format names a file for it: at each place a row, from 0. It has no row for the
     /// others.
     pub orders: Items<Items<u32>>,
+    /// For each place line that names a file the places that the file lists, and none for the others.
+    pub lists: Items<Option<Listed>>,
 }
 
 /// What the arrays of the job begin with.
@@ -46,7 +51,10 @@ pub fn load_arrays<F: Shelf>(
     ensures matrices { IfOk result (λ files. AllZip (IsArrayIn job.now.formats) job.now.arrays files.matrices) }
     ensures orders { IfOk result (λ files. AllZip (IsRowOrder job.now.formats) job.now.arrays files.orders) }
     ensures light { IfOk result (λ files. weight_of job.now ranks ≤ MOST_WEIGHT) }
+    ensures room { IfOk result (λ files. All (HasRoom (weight_of job.now ranks)) files.matrices) }
+    ensures lists { AreAmong job.now → IfOk result (λ files. AllZip (IsPlaceList job.now.extents ranks) job.now.places files.lists) }
     ensures told { IfSome (F.files shelf.old) (λ fs. Loads fs name.now ranks job.now (matrices_in result)) }
+    ensures listed { AreAmong job.now → IfSome (F.files shelf.old) (λ fs. HasListsIn fs ranks job.now result) }
 {
     load_with(alloc, name, job, job.places.as_slice(), ranks, shelf)
 }
@@ -84,7 +92,12 @@ fn load_with<F: Shelf>(
     ensures matrices { IfOk result (λ files. AllZip (IsArrayIn job.now.formats) job.now.arrays files.matrices) }
     ensures orders { IfOk result (λ files. AllZip (IsRowOrder job.now.formats) job.now.arrays files.orders) }
     ensures light { IfOk result (λ files. weight_of job.now ranks ≤ MOST_WEIGHT) }
+    ensures room { IfOk result (λ files. All (HasRoom (weight_of job.now ranks)) files.matrices) }
+    ensures lists { AreAmong (with_places places.now job.now) →
+        IfOk result (λ files. AllZip (IsPlaceList job.now.extents ranks) places.now files.lists) }
     ensures told { IfSome (F.files shelf.old) (λ fs. Loads fs name.now ranks (with_places places.now job.now) (matrices_in result)) }
+    ensures listed { AreAmong (with_places places.now job.now) →
+        IfSome (F.files shelf.old) (λ fs. HasListsIn fs ranks (with_places places.now job.now) result) }
 {
     let Some(weight) = weight_within(job, ranks) else {
         return Err(refusal(alloc, name.as_bytes(), 0, Rule::F7));
@@ -93,7 +106,7 @@ fn load_with<F: Shelf>(
         return Err(LoadError::NoMemory);
     };
     match load_uses(alloc, &uses, weight, shelf) {
-        Ok(loaded) => match array_files(alloc, job, &uses, loaded) {
+        Ok(loaded) => match array_files(alloc, job, places, ranks, &uses, loaded) {
             Ok(files) => Ok(files),
             Err(_) => Err(LoadError::NoMemory),
         },
@@ -105,6 +118,8 @@ fn load_with<F: Shelf>(
 fn array_files(
     alloc: Global,
     job: &Checked,
+    places: &[PlaceDecl],
+    ranks: u32,
     uses: &Items<Use>,
     loaded: Items<Matrix>,
 ) -> Result<ArrayFiles, NoMemory>
@@ -113,10 +128,16 @@ fn array_files(
     requires own { length (array_matrices uses.now loaded) ≡ length (filter has_file job.now.arrays) }
     ensures matrices { IfOk result (λ files. files.matrices ≡ spread job.now.arrays (array_matrices uses.now loaded)) }
     ensures orders { IfOk result (λ files. AllZip (IsRowOrder job.now.formats) job.now.arrays files.orders) }
+    ensures lists { IfOk result (λ files. AllZip (IsLineFrom uses.now loaded job.now.extents ranks) places.now files.lists) }
 {
     let orders = row_orders(alloc, job, uses, &loaded)?;
+    let lists = place_lists(alloc, job, places, ranks, uses, &loaded)?;
     let matrices = array_matrices(alloc, job.arrays.as_slice(), uses, loaded)?;
-    Ok(ArrayFiles { matrices, orders })
+    Ok(ArrayFiles {
+        matrices,
+        orders,
+        lists,
+    })
 }
 
 /// A matrix for each array, from those of all uses: an array with `zero` has no entries, and the orders of rows and the

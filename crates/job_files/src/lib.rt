@@ -7,6 +7,7 @@
 mod arrays;
 mod format_weights;
 mod laws;
+mod lists;
 mod load_error;
 mod matrix_file;
 mod mentions;

@@ -68,7 +68,7 @@ fn push_place(
 }
 
 /// How many indices an extent has.
-fn size_of(extents: &Items<ExtentDecl>, number: u32) -> u32
+pub(crate) fn size_of(extents: &Items<ExtentDecl>, number: u32) -> u32
     ensures { result ≡ size_of (slice_get extents.now number) }
 {
     match extents.get(number as usize) {

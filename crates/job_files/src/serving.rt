@@ -1,10 +1,10 @@
-ghost use Rattle.std.specs.Prelude.{◌≡◌, ◌≤◌, IfOk, IfSome, position};
-ghost use Rattle.std.specs.List.{AllZip};
+ghost use Rattle.std.specs.Prelude.{◌≡◌, ℕ, ◌≤◌, IfOk, IfSome, position};
+ghost use Rattle.std.specs.List.{All, AllZip};
 ghost use Rattle.std.specs.Option.{option_copied};
 ghost use Rattle.bern_base.specs.Matrix.{IsMatrix};
 ghost use Rattle.bern_ports.specs.Frames.{KeepsShelf, shelf_state};
 ghost use Rattle.job_files.specs.Answers.{HasFaultCause};
-ghost use Rattle.job_files.specs.FileOrder.{IsForUse, LoadsUses};
+ghost use Rattle.job_files.specs.FileOrder.{HasRoom, IsForUse, LoadsUses};
 ghost use Rattle.job_files.specs.Serving.{Beside, IsFit, IsFitFor, IsJudged, IsServed, IsTaken, IsWeighed, Serves, Takes, beside_first, is_known};
 ghost use Rattle.job_files.specs.Uses.{is_of};
 
@@ -36,6 +36,7 @@ pub fn load_uses<F: Shelf>(
     ensures keeps { KeepsShelf (shelf_state F.Shelf shelf.old) (shelf_state F.Shelf shelf.new) }
     ensures cause { HasFaultCause (shelf_state F.Shelf shelf.old) (shelf_state F.Shelf shelf.new) result }
     ensures matrix { IfOk result (λ ms. AllZip IsForUse uses.now ms) }
+    ensures room { IfOk result (All (HasRoom weight)) }
     ensures told { IfSome (F.files shelf.old) (λ fs. LoadsUses fs weight uses.now result) }
 {
     let mut total = weight;
@@ -65,12 +66,13 @@ fn next_matrix<F: Shelf>(
     shelf: &mut F,
 ) -> Result<Loaded, LoadError>
     requires light { weight ≤ MOST_WEIGHT }
-    requires fit { Beside (IsFitFor uses.now) uses.now matrices.now }
     requires served { IfSome (F.files shelf.old) (λ fs. Beside (IsServed fs uses.now) uses.now matrices.now) }
     ensures keeps { KeepsShelf (shelf_state F.Shelf shelf.old) (shelf_state F.Shelf shelf.new) }
     ensures cause { HasFaultCause (shelf_state F.Shelf shelf.old) (shelf_state F.Shelf shelf.new) result }
     ensures light { IfOk result (λ l. l.weight ≤ MOST_WEIGHT) }
-    ensures fit { IfOk result (λ l. IsFit uses.now file.now l.matrix) }
+    ensures grows { IfOk result (λ l. weight ≤ l.weight) }
+    ensures fit { (first : ℕ) → first ≤ weight → Beside (IsFitFor first uses.now) uses.now matrices.now →
+        IfOk result (λ l. IsFit first uses.now file.now l.matrix) }
     ensures told { IfSome (F.files shelf.old) (λ fs. Serves fs uses.now weight file.now (is_known uses.now matrices.now file.now) result) }
 {
     match known_matrix(uses, file, matrices) {
@@ -119,7 +121,8 @@ fn load_file<F: Shelf>(
     ensures keeps { KeepsShelf (shelf_state F.Shelf shelf.old) (shelf_state F.Shelf shelf.new) }
     ensures cause { HasFaultCause (shelf_state F.Shelf shelf.old) (shelf_state F.Shelf shelf.new) result }
     ensures light { IfOk result (λ l. l.weight ≤ MOST_WEIGHT) }
-    ensures fit { IfOk result (λ l. IsFit uses.now file.now l.matrix) }
+    ensures grows { IfOk result (λ l. weight ≤ l.weight) }
+    ensures fit { IfOk result (λ l. IsFit weight uses.now file.now l.matrix) }
     ensures told { IfSome (F.files shelf.old) (λ fs. Takes fs uses.now weight file.now result) }
 {
     match load_matrix(alloc, file, shelf) {

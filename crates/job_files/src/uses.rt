@@ -4,6 +4,7 @@ ghost use Rattle.bern_base.specs.Matrix.{IsMatrix};
 ghost use Rattle.format_model.specs.Checks.{first_of, sizes_rule};
 ghost use Rattle.formats.specs.FileRules.{order_rule};
 ghost use Rattle.job_files.specs.FileOrder.{astray_rule, broken_in, broken_rule, first_broken};
+ghost use Rattle.job_files.specs.PlaceLists.{is_place_of};
 ghost use Rattle.job_files.specs.RowOrders.{is_order_of};
 ghost use Rattle.job_files.specs.Uses.{file_of, is_array, is_of};
 
@@ -63,6 +64,20 @@ impl Use {
                 file: own,
                 rows: count,
             } => own.as_bytes() == file && *count == rows,
+            _ => false,
+        }
+    }
+
+    /// Whether the places of so many indices at so many ranks are read from that file.
+    fn is_place_of(&self, file: &[u8], size: u32, count: u32) -> bool
+        ensures { result ≡ is_place_of file.now size count self.now }
+    {
+        match self {
+            Use::Place {
+                file: own,
+                extent,
+                ranks,
+            } => own.as_bytes() == file && (*extent == size && *ranks == count),
             _ => false,
         }
     }
@@ -155,6 +170,15 @@ pub fn order_use(uses: &Items<Use>, file: &[u8], rows: u32) -> Option<usize>
     uses.as_slice()
         .iter()
         .position(|wanted| wanted.is_order_of(file, rows))
+}
+
+/// The place of the first use of that file for the places of so many indices at so many ranks.
+pub fn place_use(uses: &Items<Use>, file: &[u8], size: u32, ranks: u32) -> Option<usize>
+    ensures { result ≡ position (is_place_of file.now size ranks) uses.now }
+{
+    uses.as_slice()
+        .iter()
+        .position(|wanted| wanted.is_place_of(file, size, ranks))
 }
 
 /// How many uses are of that file.

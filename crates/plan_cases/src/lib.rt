@@ -1,7 +1,7 @@
-//! Tests of `join_plan`, in a crate of their own: a crate that holds tests is proved once more with them.
+//! Tests of `join_plan`, in a crate of their own: a crate that holds tests is proved once more with them. The list of all plans of a
+//! term is there for other tests of plans too.
 #![tactic(auto)]
 
-#[cfg(test)]
 mod plan_list;
 #[cfg(test)]
 mod plans;
@@ -9,3 +9,5 @@ mod plans;
 mod random_plans;
 #[cfg(test)]
 mod random_terms;
+
+pub use plan_list::{Listed, all_plans};

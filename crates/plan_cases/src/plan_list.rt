@@ -115,11 +115,11 @@ struct Ready {
 
 /// The first steps of a plan and what they cost, how many bindings come to the next one, and what is known then.
 #[derive(Drop)]
-pub(crate) struct Listed {
-    pub(crate) steps: Vec<PlanStep>,
-    pub(crate) cost: u128,
+pub struct Listed {
+    pub steps: Vec<PlanStep>,
+    pub cost: u128,
     /// Whether there is a search in it.
-    pub(crate) searches: bool,
+    pub searches: bool,
     many: u128,
     known: Known,
 }
@@ -323,7 +323,7 @@ fn unused(variables: usize) -> u32 {
 }
 
 /// All plans of a term, each with its cost.
-pub(crate) fn all_plans(
+pub fn all_plans(
     alloc: Global,
     nest: &Nest,
     term: &Term,

@@ -1,9 +1,13 @@
 pub mod ApplyLemmas
 pub mod BoxLemmas
+pub mod LineLemmas
 pub mod LocalLemmas
 pub mod MeaningLemmas
 pub mod PassesLemmas
 pub mod RankLemmas
+pub mod RecallLemmas
+pub mod RecordLemmas
+pub mod RunLemmas
 pub mod SmallLemmas
 pub mod SoundLemmas
 pub mod SumLemmas

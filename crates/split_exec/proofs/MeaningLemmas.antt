@@ -217,7 +217,7 @@ module _ (s : Setting) (rank : ℕ) (p : PlannedTerm) (can : CanPass s rank (p �
       ∙ home
 
   -- the leaf of a sparse reference has the state's value
-  leaf_value : (h : Hit) → IsSound s rank p.term h → is_active s.job entries h.point p.term ≡ true → (r : ℕ) → r < length p.term.sparse →
+  pub leaf_value : (h : Hit) → IsSound s rank p.term h → is_active s.job entries h.point p.term ≡ true → (r : ℕ) → r < length p.term.sparse →
       reached (tree_in s (ref_at p.term r).array) 0 0 (path_at s.job (ref_at p.term r) h.point) ≡ Some (node_of h r) →
       leaf_at s p.term h r ≡ read_at s.job.arrays state h.point (ref_at p.term r)
   leaf_value h sound active r low leads =

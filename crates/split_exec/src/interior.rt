@@ -1,9 +1,10 @@
-ghost use Rattle.std.specs.Prelude.{◌≡◌, ◌+◌, ◌≤◌, ◌∷◌, [], IsTrue, length, map};
+ghost use Rattle.std.specs.Prelude.{◌≡◌, ◌+◌, ◌≤◌, ◌∷◌, [], IfSome, IsTrue, length, map};
 ghost use Rattle.std.specs.List.{All};
-ghost use Rattle.node_prog.specs.Visiting.{IsUnderWay, budget_in, left_in, term_course};
+ghost use Rattle.node_prog.specs.Visiting.{GoesAlong, IsUnderWay, budget_in, left_in, term_course};
 ghost use Rattle.plan_courses.specs.PlanCourses.{origin};
 ghost use Rattle.split_exec.specs.Hits.{Grow, IsSound, OwnsWhole, hits_add};
 ghost use Rattle.split_exec.specs.Passing.{AddsInterior, CanPass, HasSums, pass_budget};
+ghost use Rattle.split_exec.specs.Runs.{OthersStay};
 ghost use Rattle.split_exec.specs.Settings.{IsAtRank, scene_of, setting};
 ghost use Rattle.walks.specs.Cost.{whole_budget};
 ghost use Rattle.walks.specs.Courses.{walk};
@@ -11,9 +12,11 @@ ghost use Rattle.walks.specs.Courses.{walk};
 use crate::delta::Delta;
 use crate::hits::add_hit;
 use crate::own::owns_whole;
+use crate::runs::add_runs;
+use crate::still::only_moving;
 use access_joins::Cells;
 use bern_base::{Checked, Items, Nest, Ref, Steps};
-use node_prog::Visit;
+use node_prog::{RunLine, Visit};
 use placement::Placement;
 use std::sync::ledger::Ledger;
 use term_model::PlannedTerm;
@@ -71,9 +74,44 @@ fn add_term<V: Cells, P: Placement, L: Ledger>(
 {
     let whole = owns_term(job, nest, planned, rank, places);
     let mut visit = Visit::new(job, nest, planned, rank, stores, places, steps);
-    add_hits(
-        job, nest, planned, rank, whole, stores, places, &mut visit, delta, steps,
+    let Some((line, moving)) = line_of(job, nest, planned, rank, stores, places, &visit) else {
+        add_hits(
+            job, nest, planned, rank, whole, stores, places, &mut visit, delta, steps,
+        );
+        return;
+    };
+    add_runs(
+        job, nest, planned, rank, whole, stores, places, moving, line, &mut visit, delta, steps,
     );
+}
+
+/// The line that a visit's runs go over, and the number of the dense reference that does not stay along it; None where the runs have no
+/// line, or where several references do not stay.
+fn line_of<V: Cells, P: Placement>(
+    job: &Checked,
+    nest: &Nest,
+    planned: &PlannedTerm,
+    rank: u32,
+    stores: &Items<V>,
+    places: &Items<P>,
+    visit: &Visit,
+) -> Option<(RunLine, usize)>
+    requires can { let s = setting P.triples P.ranks V.tree V.grid job.now places.now nest.now stores.now in
+        CanPass s rank (planned.now ∷ []) }
+    requires visit { let s = setting P.triples P.ranks V.tree V.grid job.now places.now nest.now stores.now in
+        IsUnderWay (scene_of s planned.now) visit.now }
+    requires rank { visit.now.rank ≡ rank }
+    ensures line { let s = setting P.triples P.ranks V.tree V.grid job.now places.now nest.now stores.now in
+        IfSome result (λ (line, moving). GoesAlong (scene_of s planned.now) rank line) }
+    ensures others { IfSome result (λ (line, moving). OthersStay planned.now.term.dense moving line.var) }
+{
+    match visit.line(job, nest, planned, stores, places) {
+        Some(line) => match only_moving(&planned.term.dense, line.var) {
+            Some(moving) => Some((line, moving)),
+            None => None,
+        },
+        None => None,
+    }
 }
 
 /// Whether it is known that a rank owns all of the arrays that a term reads and that the nest writes, where they are stored whole.

@@ -11,7 +11,7 @@ use Rattle.turn_model.specs.Runs.{Run, schedule, scripts, turn_budget, turns_bud
 use Rattle.turn_model.specs.Schedules.{request, rounds, values_letter}
 use Rattle.turn_node.specs.declared.stage.Stage.{Stage}
 use Rattle.turn_node.specs.declared.stage.Stage.TheVariants.{Inspect, Request, AwaitRequests, Values, Inner, AwaitValues, Outer, Done}
-use Rattle.turn_node.specs.Positions.{begin, due_request, due_values, from_inner, from_requests, from_turn, from_values, is_inspected, is_summed, passed_of, steps_left, todo_of, turn_of, GoesTo, IsStage}
+use Rattle.turn_node.specs.Positions.{Ready, begin, due_request, due_values, from_inner, from_requests, from_turn, from_values, is_inspected, phase_of, passed_of, steps_left, todo_of, turn_of, GoesTo, IsStage}
 
 -- posts to the ranks from a to the last, one at a time
 posts_split : (due : ℕ → Option Letter) (a ranks : ℕ) → a < ranks → posts_between due a (ranks - a) ≡ post_due a (due a) ++ posts_between due (a + 1) (ranks - (a + 1))
@@ -84,7 +84,7 @@ pub record Begins (run : Run) (r t : ℕ) : Type 0 where
   pub turn : turn_of run (begin run t) ≡ t
   pub steps : steps_left run r (begin run t) ≡ turns_budget run r t
   pub inspected : is_inspected (begin run t) ≡ true
-  pub summed : is_summed (begin run t) ≡ false
+  pub phase : phase_of (begin run t) ≡ Ready
 
 pub begins : (run : Run) (r t : ℕ) → t ≤ turns_of run → Begins run r t
 begins run r t within =
@@ -97,7 +97,7 @@ begins run r t within =
             turn = ap (turn_of run) is;
             steps = ap (steps_left run r) is;
             inspected = ap is_inspected is;
-            summed = ap is_summed is;
+            phase = ap phase_of is;
           }
       | inr past ↦
           let is = begin_past run t past in
@@ -108,7 +108,7 @@ begins run r t within =
             turn = ap (turn_of run) is ∙ last;
             steps = ap (steps_left run r) is ∙ sym (budget_end run r t past);
             inspected = ap is_inspected is;
-            summed = ap is_summed is;
+            phase = ap phase_of is;
           }
     ]
 
@@ -142,7 +142,7 @@ goes_request run r from to given below other same =
       position = ap (past_waits passes 0) (same ∙ first) ∙ ap (at_position 0) (sym first);
       stage = record { there = below; other = other };
       inspected = refl;
-      summed = refl;
+      phase = refl;
       turn = refl;
       steps = refl;
     }
@@ -150,7 +150,7 @@ goes_request run r from to given below other same =
 pub goes_through : (run : Run) (r from : ℕ) (given : ℕ → List Letter) (to : Stage) → from_requests run r from ≡ Wait ∷ from_turn run r 0 →
     GoesTo run r given AwaitRequests to → GoesTo run r given (Request from) to
 goes_through run r from given to same goes =
-    record { position = ap (past_waits (has_all (scripts run) r given) 0) same ∙ goes.position; stage = goes.stage; inspected = goes.inspected; summed = goes.summed; turn = goes.turn; steps = goes.steps }
+    record { position = ap (past_waits (has_all (scripts run) r given) 0) same ∙ goes.position; stage = goes.stage; inspected = goes.inspected; phase = goes.phase; turn = goes.turn; steps = goes.steps }
 
 -- past the wait for Requests, to the first turn
 pub goes_on_requests : (run : Run) (r : ℕ) (given : ℕ → List Letter) (to : Stage) → has_all (scripts run) r given 0 ≡ true →
@@ -161,13 +161,13 @@ goes_on_requests run r given to all goes =
       position = cond-true _ _ _ all ∙ ap (past_waits (has_all (scripts run) r given) 1) (sym first.todo) ∙ ap (λ m. past_waits (has_all (scripts run) r given) m (todo_of run r (begin run 0))) (sym first.passed) ∙ goes.position;
       stage = goes.stage;
       inspected = goes.inspected ∙ first.inspected;
-      summed = goes.summed ∙ first.summed;
+      phase = goes.phase ∙ first.phase;
       turn = goes.turn ∙ first.turn;
       steps = goes.steps ∙ first.steps;
     }
 
 pub stops_at_requests : (run : Run) (r : ℕ) (given : ℕ → List Letter) → has_all (scripts run) r given 0 ≡ false → GoesTo run r given AwaitRequests AwaitRequests
-stops_at_requests run r given lack = record { position = cond-false _ _ _ lack; stage = tt; inspected = refl; summed = refl; turn = refl; steps = refl }
+stops_at_requests run r given lack = record { position = cond-false _ _ _ lack; stage = tt; inspected = refl; phase = refl; turn = refl; steps = refl }
 
 -- the begin of a turn
 pub goes_begin : (run : Run) (r t : ℕ) (given : ℕ → List Letter) (to : Stage) → t < turns_of run → GoesTo run r given (Values t 0) to → GoesTo run r given (begin run t) to
@@ -175,14 +175,14 @@ goes_begin run r t given to below goes = subst (λ from. GoesTo run r given from
 
 pub goes_done : (run : Run) (r t : ℕ) (given : ℕ → List Letter) → turns_of run ≤ t → GoesTo run r given (begin run t) Done
 goes_done run r t given past =
-    subst (λ from. GoesTo run r given from Done) (sym (begin_past run t past)) (record { position = refl; stage = tt; inspected = refl; summed = refl; turn = refl; steps = refl })
+    subst (λ from. GoesTo run r given from Done) (sym (begin_past run t past)) (record { position = refl; stage = tt; inspected = refl; phase = refl; turn = refl; steps = refl })
 
 -- past the wait for values, or not
 pub goes_on_values : (run : Run) (r t : ℕ) (given : ℕ → List Letter) → t < turns_of run → has_all (scripts run) r given (suc t) ≡ true → GoesTo run r given (AwaitValues t) (Outer t)
-goes_on_values run r t given below all = record { position = cond-true _ _ _ all; stage = below; inspected = refl; summed = refl; turn = refl; steps = refl }
+goes_on_values run r t given below all = record { position = cond-true _ _ _ all; stage = below; inspected = refl; phase = refl; turn = refl; steps = refl }
 
 pub stops_at_values : (run : Run) (r t : ℕ) (given : ℕ → List Letter) → t < turns_of run → has_all (scripts run) r given (suc t) ≡ false → GoesTo run r given (AwaitValues t) (AwaitValues t)
-stops_at_values run r t given below lack = record { position = cond-false _ _ _ lack; stage = below; inspected = refl; summed = refl; turn = refl; steps = refl }
+stops_at_values run r t given below lack = record { position = cond-false _ _ _ lack; stage = below; inspected = refl; phase = refl; turn = refl; steps = refl }
 
 -- to the next post of values, or past the last one
 pub goes_values : (run : Run) (r t from to : ℕ) (given : ℕ → List Letter) (letter : Letter) → t < turns_of run → to < run.ranks → due_values run t r to ≡ Some letter → from_values run r t from ≡ from_values run r t to →
@@ -194,18 +194,18 @@ goes_values run r t from to given letter turns below due same =
       position = ap (past_waits passes (suc t)) (same ∙ first) ∙ ap (at_position (suc t)) (sym first);
       stage = record { turns = turns; there = below; letter = letter; due = due };
       inspected = refl;
-      summed = refl;
+      phase = refl;
       turn = refl;
       steps = refl;
     }
 
 pub goes_inner : (run : Run) (r t from : ℕ) (given : ℕ → List Letter) → t < turns_of run → from_values run r t from ≡ from_inner run r t → GoesTo run r given (Values t from) (Inner t)
-goes_inner run r t from given below same = record { position = ap (past_waits (has_all (scripts run) r given) (suc t)) same; stage = below; inspected = refl; summed = refl; turn = refl; steps = refl }
+goes_inner run r t from given below same = record { position = ap (past_waits (has_all (scripts run) r given) (suc t)) same; stage = below; inspected = refl; phase = refl; turn = refl; steps = refl }
 
 -- a stage at which no wait stands
 pub goes_nowhere : (run : Run) (r : ℕ) (given : ℕ → List Letter) (stage : Stage) → IsStage run r stage → at_work (todo_of run r stage) ≡ true → GoesTo run r given stage stage
 goes_nowhere run r given stage is at =
-    record { position = stays (has_all (scripts run) r given) (passed_of run stage) (todo_of run r stage) (work_first (todo_of run r stage) at); stage = is; inspected = refl; summed = refl; turn = refl; steps = refl }
+    record { position = stays (has_all (scripts run) r given) (passed_of run stage) (todo_of run r stage) (work_first (todo_of run r stage) at); stage = is; inspected = refl; phase = refl; turn = refl; steps = refl }
   where
     work_first : (acts : List (Act Letter)) → at_work acts ≡ true → at_wait acts ≡ true → has_all (scripts run) r given (passed_of run stage) ≡ false
     work_first [] at waits = absurd (cc)
@@ -271,12 +271,12 @@ works_at run r (Outer turn) has at = Applies turn refl
 works_at run r Done has at = absurd (cc)
 
 -- and holds no sums
-pub end_summed : (run : Run) (r : ℕ) (stage : Stage) → IsStage run r stage → at_end (todo_of run r stage) ≡ true → is_summed stage ≡ false
-end_summed run r Inspect has at = refl
-end_summed run r (Request to) has at = refl
-end_summed run r AwaitRequests has at = refl
-end_summed run r (Values turn to) has at = refl
-end_summed run r (Inner turn) has at = refl
-end_summed run r (AwaitValues turn) has at = absurd (cc)
-end_summed run r (Outer turn) has at = absurd (cc)
-end_summed run r Done has at = refl
+pub end_phase : (run : Run) (r : ℕ) (stage : Stage) → IsStage run r stage → at_end (todo_of run r stage) ≡ true → phase_of stage ≡ Ready
+end_phase run r Inspect has at = absurd (cc)
+end_phase run r (Request to) has at = refl
+end_phase run r AwaitRequests has at = refl
+end_phase run r (Values turn to) has at = refl
+end_phase run r (Inner turn) has at = refl
+end_phase run r (AwaitValues turn) has at = absurd (cc)
+end_phase run r (Outer turn) has at = absurd (cc)
+end_phase run r Done has at = refl

@@ -28,7 +28,7 @@ use Rattle.turn_node.specs.declared.stage.Tally.{Tally}
 use Rattle.turn_node.specs.Asks.{elements_in, no_needs}
 use Rattle.turn_node.specs.Drops.{HaveDropped}
 use Rattle.turn_node.specs.Parts.{At, HaveArrived, MayApply, MaySend, all_asks, needs_from}
-use Rattle.turn_node.specs.Positions.{begin, is_inspected, is_summed, passed_of, steps_left, todo_of, turn_of, GoesTo, IsComing, IsStage}
+use Rattle.turn_node.specs.Positions.{Phase, Ready, Summed, begin, is_inspected, passed_of, phase_of, steps_left, todo_of, turn_of, GoesTo, IsComing, IsStage}
 use Rattle.turn_node.specs.Progresses.{asked_at, box_at, given_by, given_of, node_of, taken_at, used, AreTallied, Goes, HasMail, HasMailAt, IsProgress, IsTallied, Keeps, Posts, Stays, Uses}
 use Rattle.turn_node.proofs.PositionLemmas.{begins, budget_first, post_request, post_values}
 use Rattle.turn_node.proofs.MailLemmas.{given_long, given_front, is_due, named_request, nest_is, turn_letter}
@@ -44,12 +44,12 @@ pub passed_first : (run : Run) (r : ℕ) (given : ℕ → List Letter) (m : ℕ)
 passed_first run r given m past = past 0 (omega arith)
 
 -- after a work that leads to the next stage, and on to another
-pub worked_goes : (run : Run) (n : Progress) (asks : List Needs) (mail : List (List Letter)) (next stop : Stage) (turn : ℕ) (summed : Bool) (cost : ℕ) → IsProgress run n →
+pub worked_goes : (run : Run) (n : Progress) (asks : List Needs) (mail : List (List Letter)) (next stop : Stage) (turn : ℕ) (phase : Phase) (cost : ℕ) → IsProgress run n →
     HasMail run n.rank n.turns n.asked mail n.taken turn → (is_inspected stop ≡ true → asks ≡ all_asks run n.rank) →
-    todo_of run n.rank n.stage ≡ Work ∷ todo_of run n.rank next → passed_of run next ≡ passed_of run n.stage → turn_of run next ≡ turn → is_summed next ≡ summed →
+    todo_of run n.rank n.stage ≡ Work ∷ todo_of run n.rank next → passed_of run next ≡ passed_of run n.stage → turn_of run next ≡ turn → phase_of next ≡ phase →
     steps_left run n.rank next + cost ≡ steps_left run n.rank n.stage → GoesTo run n.rank (given_of run n) next stop →
-    Goes run n (record n { asks = asks; mail = mail; stage = stop }) turn summed cost (worked (scripts run) n.rank (node_of run n))
-worked_goes run n asks mail next stop turn summed cost is mailed asked todo passed turn_is summed_is steps goes =
+    Goes run n (record n { asks = asks; mail = mail; stage = stop }) turn phase cost (worked (scripts run) n.rank (node_of run n))
+worked_goes run n asks mail next stop turn phase cost is mailed asked todo passed turn_is phase_same steps goes =
     let same = worked_same run n.rank n.stage next stop (given_of run n) is.fit todo passed goes in
     let P : scripted.Node Letter → Type 0 = λ node. AreTallied run n.rank node n.sent in
     let Q : ℕ → Type 0 = λ t. HasMail run n.rank n.turns n.asked mail n.taken t in
@@ -65,25 +65,25 @@ worked_goes run n asks mail next stop turn summed cost is mailed asked todo pass
       rank = refl;
       moved = same;
       turn_is = goes.turn ∙ turn_is;
-      summed_is = goes.summed ∙ summed_is;
+      phase_is = goes.phase ∙ phase_same;
       cost_is = ap (λ k. k + cost) goes.steps ∙ steps;
     }
 
 -- the inspection
 pub inspected_goes : (run : Run) (n : Progress) (asks : List Needs) (stop : Stage) → IsProgress run n → n.stage ≡ Inspect → asks ≡ all_asks run n.rank → GoesTo run n.rank (given_of run n) (Request 0) stop →
-    Goes run n (record n { asks = asks; stage = stop }) 0 false (run.budget.inspect n.rank) (worked (scripts run) n.rank (node_of run n))
+    Goes run n (record n { asks = asks; stage = stop }) 0 Ready (run.budget.inspect n.rank) (worked (scripts run) n.rank (node_of run n))
 inspected_goes run n asks stop is at_it are goes =
-    worked_goes run n asks n.mail (Request 0) stop 0 false (run.budget.inspect n.rank) is
+    worked_goes run n asks n.mail (Request 0) stop 0 Ready (run.budget.inspect n.rank) is
     (subst (HasMailAt run n) (ap (turn_of run) at_it) is.mail) (λ e. are)
     (ap (todo_of run n.rank) at_it) (sym (ap (passed_of run) at_it)) refl refl
     (let left = ap (steps_left run n.rank) at_it in omega arith) goes
 
 -- the inner points
 pub summed_goes : (run : Run) (n : Progress) (turn : ℕ) (stop : Stage) → IsProgress run n → n.stage ≡ Inner turn → GoesTo run n.rank (given_of run n) (AwaitValues turn) stop →
-    Goes run n (record n { stage = stop }) turn true (run.budget.inner turn n.rank) (worked (scripts run) n.rank (node_of run n))
+    Goes run n (record n { stage = stop }) turn Summed (run.budget.inner turn n.rank) (worked (scripts run) n.rank (node_of run n))
 summed_goes run n turn stop is at_it goes =
     let below : turn < turns_of run = subst (IsStage run n.rank) at_it is.stage in
-    worked_goes run n n.asks n.mail (AwaitValues turn) stop turn true (run.budget.inner turn n.rank) is
+    worked_goes run n n.asks n.mail (AwaitValues turn) stop turn Summed (run.budget.inner turn n.rank) is
     (subst (HasMailAt run n) (ap (turn_of run) at_it) is.mail) (λ e. is.asks (ap is_inspected at_it))
     (ap (todo_of run n.rank) at_it) (sym (ap (passed_of run) at_it)) refl refl
     (let left = ap (steps_left run n.rank) at_it in let first = budget_first run n.rank turn below in omega arith) goes
@@ -115,17 +115,17 @@ dropped_uses run n m t count is counted had =
     }
 
 pub applied_goes : (run : Run) (n m : Progress) (turn : ℕ) (stop : Stage) → IsProgress run n → n.stage ≡ Outer turn → Uses run n m turn → GoesTo run m.rank (given_of run m) (begin run (turn + 1)) stop →
-    Goes run n (record m { stage = stop }) (turn + 1) false (run.budget.outer turn n.rank) (worked (scripts run) n.rank (node_of run n))
+    Goes run n (record m { stage = stop }) (turn + 1) Ready (run.budget.outer turn n.rank) (worked (scripts run) n.rank (node_of run n))
 applied_goes run n m turn stop is at_it uses goes =
     let below : turn < turns_of run = subst (IsStage run n.rank) at_it is.stage in
     let first = begins run n.rank (turn + 1) (omega arith) in
-    let P : Progress → Type 0 = λ k. Goes run n (record k { stage = stop }) (turn + 1) false (run.budget.outer turn n.rank) (worked (scripts run) n.rank (node_of run n)) in
+    let P : Progress → Type 0 = λ k. Goes run n (record k { stage = stop }) (turn + 1) Ready (run.budget.outer turn n.rank) (worked (scripts run) n.rank (node_of run n)) in
     let Q : Progress → Type 0 = λ k. GoesTo run k.rank (given_of run k) (begin run (turn + 1)) stop in
     let R : Progress → Type 0 = λ k. HasMail run k.rank k.turns k.asked m.mail k.taken (turn + 1) in
     subst P (sym uses.same)
-    (worked_goes run n n.asks m.mail (begin run (turn + 1)) stop (turn + 1) false (run.budget.outer turn n.rank) is
+    (worked_goes run n n.asks m.mail (begin run (turn + 1)) stop (turn + 1) Ready (run.budget.outer turn n.rank) is
     (subst R uses.same uses.mail) (λ e. is.asks (ap is_inspected at_it))
-    (ap (todo_of run n.rank) at_it ∙ ap (λ acts. Work ∷ acts) (sym first.todo)) (first.passed ∙ (let same : suc (turn + 1) ≡ suc (suc turn) = omega arith in same) ∙ sym (ap (passed_of run) at_it)) first.turn first.summed
+    (ap (todo_of run n.rank) at_it ∙ ap (λ acts. Work ∷ acts) (sym first.todo)) (first.passed ∙ (let same : suc (turn + 1) ≡ suc (suc turn) = omega arith in same) ∙ sym (ap (passed_of run) at_it)) first.turn first.phase
     (let left = ap (steps_left run n.rank) at_it in let more = first.steps in omega arith) (subst Q uses.same goes))
 
 -- a post
@@ -147,7 +147,7 @@ posted_goes run n to values next stop tally tallies is below p at_it new goes =
       rank = refl;
       moved = same;
       turn_is = goes.turn ∙ p.turn;
-      summed_is = goes.summed ∙ p.summed;
+      phase_is = goes.phase ∙ p.phase;
       cost_is = add-zero (steps_left run n.rank stop) ∙ goes.steps ∙ p.steps;
     }
 
@@ -175,7 +175,7 @@ posts_request run n to at_it is =
       coming = tt;
       passed = sym (ap (passed_of run) at_it);
       inspected = sym (ap is_inspected at_it);
-      summed = sym (ap is_summed at_it);
+      phase = sym (ap phase_of at_it);
       turn = sym (ap (turn_of run) at_it);
       steps = sym (ap (steps_left run n.rank) at_it);
     }
@@ -190,7 +190,7 @@ posts_values run n turn to count at_it is counted =
       coming = first.turns;
       passed = sym (ap (passed_of run) at_it);
       inspected = sym (ap is_inspected at_it);
-      summed = sym (ap is_summed at_it);
+      phase = sym (ap phase_of at_it);
       turn = sym (ap (turn_of run) at_it);
       steps = sym (ap (steps_left run n.rank) at_it);
     }
@@ -218,7 +218,7 @@ took_goes run n asked mail from letter stop is below next mailed goes =
       rank = refl;
       moved = same;
       turn_is = goes.turn;
-      summed_is = goes.summed;
+      phase_is = goes.phase;
       cost_is = add-zero (steps_left run n.rank stop) ∙ goes.steps;
     }
 

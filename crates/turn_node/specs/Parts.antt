@@ -1,9 +1,9 @@
 -- What a node asks of the part of the arrays that it holds.
-use Rattle.std.specs.Prelude.{◌≡◌, ◌≢◌, ℕ, ◌+◌, ◌<◌, List, [], Some, map, slice_get, slice_index_or}
+use Rattle.std.specs.Prelude.{◌≡◌, ◌≢◌, ℕ, ◌+◌, ◌<◌, true, List, [], Some, length, map, slice_get, slice_index, slice_index_or}
 use Rattle.std.specs.List.{range_with_len}
 use Rattle.bern_base.specs.declared.letter.Letter.{Letter}
 use Rattle.bern_base.specs.declared.letter.Needs.{Needs}
-use Rattle.turn_model.specs.Runs.{Run, asked}
+use Rattle.turn_model.specs.Runs.{Run, asked, part_values}
 use Rattle.turn_node.specs.Positions.{due_values}
 
 -- a rank of a run before a turn
@@ -46,3 +46,12 @@ pub record MayApply (at : At) (nest : ℕ) (asks : List Needs) (mail : List (Lis
   pub nest_is : Turns at nest
   pub asks_are : asks ≡ all_asks at.run at.rank
   pub arrived : HaveArrived at mail
+
+-- an element of an array that is stored whole, by its number in the rank's part
+pub record IsCell (at : At) (array element : ℕ) : Type 0 where
+  pub whole : at.run.whole array ≡ true
+  pub there : element < length (part_values at.run at.turn array at.rank)
+
+-- and its value before the turn
+abbrev pub IsValue : At → ℕ → ℕ → ℕ → Type 0
+IsValue at array element value = value ≡ slice_index (part_values at.run at.turn array at.rank) element

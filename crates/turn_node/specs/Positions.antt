@@ -121,16 +121,21 @@ is_inspected (AwaitValues turn) = true
 is_inspected (Outer turn) = true
 is_inspected Done = true
 
--- it holds the sums of its inner points
-abbrev pub is_summed : Stage → Bool
-is_summed Inspect = false
-is_summed (Request to) = false
-is_summed AwaitRequests = false
-is_summed (Values turn to) = false
-is_summed (Inner turn) = false
-is_summed (AwaitValues turn) = true
-is_summed (Outer turn) = true
-is_summed Done = false
+-- how far its part of the arrays has come: it has not found what the rank needs, it has, or it holds the sums of a turn's inner points
+pub data Phase : Type 0 where
+  New : Phase
+  Ready : Phase
+  Summed : Phase
+
+abbrev pub phase_of : Stage → Phase
+phase_of Inspect = New
+phase_of (Request to) = Ready
+phase_of AwaitRequests = Ready
+phase_of (Values turn to) = Ready
+phase_of (Inner turn) = Ready
+phase_of (AwaitValues turn) = Summed
+phase_of (Outer turn) = Summed
+phase_of Done = Ready
 
 -- the steps that its works may still take
 abbrev pub steps_left : Run → ℕ → Stage → ℕ
@@ -148,7 +153,7 @@ pub record GoesTo (run : Run) (r : ℕ) (given : ℕ → List Letter) (from to :
   pub position : past_waits (has_all (scripts run) r given) (passed_of run from) (todo_of run r from) ≡ position_of run r to
   pub stage : IsStage run r to
   pub inspected : is_inspected to ≡ is_inspected from
-  pub summed : is_summed to ≡ is_summed from
+  pub phase : phase_of to ≡ phase_of from
   pub turn : turn_of run to ≡ turn_of run from
   pub steps : steps_left run r to ≡ steps_left run r from
 

@@ -16,7 +16,7 @@ use Rattle.turn_node.specs.declared.stage.Stage.{Stage}
 use Rattle.turn_node.specs.declared.stage.Tally.{Tally}
 use Rattle.turn_node.specs.Asks.{no_needs}
 use Rattle.turn_node.specs.Parts.{At, all_asks, needs_from}
-use Rattle.turn_node.specs.Positions.{IsComing, IsStage, is_inspected, is_summed, passed_of, steps_left, todo_of, turn_of}
+use Rattle.turn_node.specs.Positions.{IsComing, IsStage, is_inspected, Phase, passed_of, phase_of, steps_left, todo_of, turn_of}
 
 -- what a rank reads of another one in its lists
 abbrev pub taken_at : List ℕ → ℕ → ℕ
@@ -85,19 +85,19 @@ pub record IsProgress (run : Run) (n : Progress) : Type 0 where
 abbrev pub at : Run → Progress → At
 at run n = record { run = run; rank = n.rank; turn = turn_of run n.stage }
 
--- it is the same rank of the run, which has moved on in its script: it stands in this turn, has summed its inner points or
+-- it is the same rank of the run, which has moved on in its script: it stands in this turn, its part of the arrays has come as far as this,
 -- not, and so much less its works may still take
-pub record Goes (run : Run) (old new : Progress) (turn : ℕ) (summed : Bool) (cost : ℕ) (next : scripted.Node Letter) : Type 0 where
+pub record Goes (run : Run) (old new : Progress) (turn : ℕ) (phase : Phase) (cost : ℕ) (next : scripted.Node Letter) : Type 0 where
   pub progress : IsProgress run new
   pub rank : new.rank ≡ old.rank
   pub moved : node_of run new ≡ next
   pub turn_is : turn_of run new.stage ≡ turn
-  pub summed_is : is_summed new.stage ≡ summed
+  pub phase_is : phase_of new.stage ≡ phase
   pub cost_is : steps_left run new.rank new.stage + cost ≡ steps_left run old.rank old.stage
 
 -- by a letter alone it stays where it is, but for the script
 abbrev pub Stays : Run → Progress → Progress → scripted.Node Letter → Type 0
-Stays run old new next = Goes run old new (turn_of run old.stage) (is_summed old.stage) 0 next
+Stays run old new next = Goes run old new (turn_of run old.stage) (phase_of old.stage) 0 next
 
 -- after a post to rank `to` of a letter with so many values rank r reaches the next stage
 pub record Posts (run : Run) (r to : ℕ) (stage next : Stage) (values : ℕ) : Type 0 where
@@ -107,7 +107,7 @@ pub record Posts (run : Run) (r to : ℕ) (stage next : Stage) (values : ℕ) : 
   pub coming : IsComing run next
   pub passed : passed_of run next ≡ passed_of run stage
   pub inspected : is_inspected next ≡ is_inspected stage
-  pub summed : is_summed next ≡ is_summed stage
+  pub phase : phase_of next ≡ phase_of stage
   pub turn : turn_of run next ≡ turn_of run stage
   pub steps : steps_left run r next ≡ steps_left run r stage
 

@@ -1,11 +1,12 @@
-ghost use Rattle.std.specs.Prelude.{◌≡◌, ◌+◌, ◌<◌, ◌≤◌, true, false, [], ◌∷◌, Some, length, IfOk, IfErr, OnOk, OnErr};
+ghost use Rattle.std.specs.Prelude.{◌≡◌, ◌+◌, ◌<◌, ◌≤◌, true, [], ◌∷◌, Some, length, IfOk, IfErr, OnOk, OnErr};
 ghost use Rattle.std.specs.List.{sum_by};
 ghost use Rattle.rank_scripts.specs.Acts.{at_work, at_post, at_end};
 ghost use Rattle.rank_scripts.specs.Scripts.{book, IsFrontOf, IsNextOf};
 ghost use Rattle.rank_scripts.specs.Nodes.{fresh, sent};
-ghost use Rattle.turn_model.specs.Runs.{IsRun, Run, part_values, rank_budget, schedule, scripts, turns_of};
+ghost use Rattle.turn_model.specs.Runs.{IsRun, Run, rank_budget, schedule, scripts, turns_of};
 ghost use Rattle.turn_model.specs.Schedules.{request, values_in as letter_size, values_letter};
-ghost use Rattle.turn_node.specs.Positions.{is_summed, turn_of, want_of};
+ghost use Rattle.turn_node.specs.Parts.{IsCell, IsValue};
+ghost use Rattle.turn_node.specs.Positions.{New, phase_of, turn_of, want_of};
 ghost use Rattle.turn_node.specs.Progresses.{at, IsFirstOfRest, IsNextToPost};
 ghost use Rattle.turn_node.specs.NodeStates.{allowance, rank_in, HasPosted, HasTaken, HasWorked, IsNode};
 
@@ -42,7 +43,7 @@ impl<P: Part + Drop> Node<P> {
         requires rank { rank < run.ranks }
         requires ranks { ranks ≡ run.ranks }
         requires turns { turns ≡ run.turns }
-        requires part { P.stands part (record { run = run; rank = rank; turn = 0 }) false }
+        requires part { P.stands part (record { run = run; rank = rank; turn = 0 }) New }
         ensures node { IfOk result (λ node. IsNode P.stands run node) }
         ensures rank { IfOk result (λ node. node.progress.rank ≡ rank) }
         ensures fresh { IfOk result (λ node. rank_in run node ≡ fresh (scripts run) rank) }
@@ -94,23 +95,23 @@ impl<P: Part + Drop> Node<P> {
     pub fn part(&self) -> &P
         ghost run: { Run }
         requires { IsNode P.stands run self.now }
-        ensures part { P.stands result.now (at run self.now.progress) (is_summed self.now.progress.stage) }
+        ensures part { P.stands result.now (at run self.now.progress) (phase_of self.now.progress.stage) }
         ensures end { at_end (rank_in run self.now).todo ≡ true → turn_of run self.now.progress.stage ≡ turns_of run }
     {
         &self.part
     }
 
-    /// The values of the rank's part of an array that is stored whole, by its own numbers of the elements: those before the
-    /// turn of its position, and once the rank is done those after the last turn.
-    pub fn owned_values(&self, array: u32) -> &Items<Val>
+    /// The value of an element of an array that is stored whole, by its number in the rank's part: that before the turn of its
+    /// position, and once the rank is done that after the last turn.
+    pub fn cell(&self, array: u32, element: u32) -> Val
         ghost run: { Run }
         requires node { IsNode P.stands run self.now }
-        requires whole { run.whole array ≡ true }
-        ensures turn { result.now ≡ part_values run (turn_of run self.now.progress.stage) array self.now.progress.rank }
+        requires there { IsCell (at run self.now.progress) array element }
+        ensures turn { IsValue (at run self.now.progress) array element result }
         ensures end { at_end (rank_in run self.now).todo ≡ true →
-            result.now ≡ part_values run (turns_of run) array self.now.progress.rank }
+            IsValue (record { run = run; rank = self.now.progress.rank; turn = turns_of run }) array element result }
     {
-        self.part.owned(array)
+        self.part.cell(array, element)
     }
 
     /// The letter that the rank posts next: the next one of its book for that receiver.

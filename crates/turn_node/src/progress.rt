@@ -1,4 +1,4 @@
-ghost use Rattle.std.specs.Prelude.{◌≡◌, ◌+◌, ◌<◌, true, false, [], ◌∷◌, Some, length, slice_get, IfOk, IfErr, OnOk, OnErr};
+ghost use Rattle.std.specs.Prelude.{◌≡◌, ◌+◌, ◌<◌, true, [], ◌∷◌, Some, length, slice_get, IfOk, IfErr, OnOk, OnErr};
 ghost use Rattle.std.specs.List.{sum_by};
 ghost use Rattle.rank_scripts.specs.Acts.{at_post};
 ghost use Rattle.rank_scripts.specs.Scripts.{book, IsFrontOf, IsNextOf};
@@ -6,7 +6,7 @@ ghost use Rattle.rank_scripts.specs.Nodes.{fresh, posted, sent, took, worked};
 ghost use Rattle.turn_model.specs.Runs.{IsRun, Run, schedule, scripts};
 ghost use Rattle.turn_model.specs.Schedules.{request, values_in as letter_size};
 ghost use Rattle.turn_node.specs.Parts.{all_asks};
-ghost use Rattle.turn_node.specs.Positions.{want_of};
+ghost use Rattle.turn_node.specs.Positions.{Ready, Summed, want_of};
 ghost use Rattle.turn_node.specs.Progresses.{node_of, Goes, IsProgress, Keeps, Posts, Stays};
 
 use crate::due::{elements_due, needs_like, no_counts, nothing_asked};
@@ -140,7 +140,7 @@ impl Progress {
         requires is { IsProgress run self.old }
         requires stage { self.old.stage ≡ Stage.Inspect }
         requires asks { asks ≡ all_asks run self.old.rank }
-        ensures { Goes run self.old self.new 0 false (run.budget.inspect self.old.rank)
+        ensures { Goes run self.old self.new 0 Ready (run.budget.inspect self.old.rank)
             (worked (scripts run) self.old.rank (node_of run self.old)) }
     {
         self.asks = asks;
@@ -152,7 +152,7 @@ impl Progress {
         ghost run: { Run }
         requires is { IsProgress run self.old }
         requires stage { self.old.stage ≡ Stage.Inner turn }
-        ensures { Goes run self.old self.new turn true (run.budget.inner turn self.old.rank)
+        ensures { Goes run self.old self.new turn Summed (run.budget.inner turn self.old.rank)
             (worked (scripts run) self.old.rank (node_of run self.old)) }
     {
         self.stage = self.settled(Stage::AwaitValues { turn });
@@ -163,7 +163,7 @@ impl Progress {
         ghost run: { Run }
         requires is { IsProgress run self.old }
         requires stage { self.old.stage ≡ Stage.Outer turn }
-        ensures { Goes run self.old self.new (turn + 1) false (run.budget.outer turn self.old.rank)
+        ensures { Goes run self.old self.new (turn + 1) Ready (run.budget.outer turn self.old.rank)
             (worked (scripts run) self.old.rank (node_of run self.old)) }
     {
         self.drop_used(turn);

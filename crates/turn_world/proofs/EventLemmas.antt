@@ -26,9 +26,9 @@ use Rattle.turn_model.specs.Schedules.{request, values_letter}
 use Rattle.turn_node.specs.declared.node.Node.{Node}
 use Rattle.turn_node.specs.NodeStates.{rank_in}
 use Rattle.turn_node.specs.Parts.{At}
-use Rattle.turn_node.specs.Positions.{is_summed, turn_of}
+use Rattle.turn_node.specs.Positions.{Phase, phase_of, turn_of}
 use Rattle.turn_node.proofs.KeptLemmas.{book_few}
-use Rattle.turn_node.proofs.PositionLemmas.{end_summed, end_turn}
+use Rattle.turn_node.proofs.PositionLemmas.{end_phase, end_turn}
 use Rattle.turn_world.specs.declared.event.Event.{Event}
 use Rattle.turn_world.specs.Worlds.{event_of, events_of, all_events, enabled_events, node_or, node_in, world_in, IsAmong, IsFit, AreAtEnd}
 
@@ -157,7 +157,7 @@ pub done_left : (run : Run) (w : worlds.World Letter) → Fit (scripts run) w �
 done_left run w fit over = done_none (scripts run) w (IsClosed-turns run.ranks (turns_of run) (request (schedule run)) (values_letter (schedule run))) fit over
 
 -- what the nodes of a done world hold
-pub all_at_end : {A : Type 0} (stands : A → At → Bool → Type 0) (run : Run) (nodes : List (Node A)) (boxes : List (List (List Letter))) → IsFit stands run nodes boxes → done (scripts run) (world_in run nodes boxes) ≡ true → AreAtEnd stands run nodes boxes
+pub all_at_end : {A : Type 0} (stands : A → At → Phase → Type 0) (run : Run) (nodes : List (Node A)) (boxes : List (List (List Letter))) → IsFit stands run nodes boxes → done (scripts run) (world_in run nodes boxes) ≡ true → AreAtEnd stands run nodes boxes
 all_at_end {A} stands run nodes boxes is over =
     let w = world_in run nodes boxes in
     let ended : (r : ℕ) (n : Node A) → slice_get nodes r ≡ Some n → at_end (rank_in run n).todo ≡ true =
@@ -169,10 +169,10 @@ all_at_end {A} stands run nodes boxes is over =
       parts = λ r n at.
           let rank = is.nodes_are r n at in
           let turn = end_turn run n.progress.rank n.progress.stage rank.node.progress.stage (ended r n at) in
-          let summed = end_summed run n.progress.rank n.progress.stage rank.node.progress.stage (ended r n at) in
-          subst (λ (b : Bool). stands n.part (record { run = run; rank = r; turn = turns_of run }) b) summed
-          (subst (λ (t : ℕ). stands n.part (record { run = run; rank = r; turn = t }) (is_summed n.progress.stage)) turn
-          (subst (λ (k : ℕ). stands n.part (record { run = run; rank = k; turn = turn_of run n.progress.stage }) (is_summed n.progress.stage)) rank.rank rank.node.part));
+          let phase = end_phase run n.progress.rank n.progress.stage rank.node.progress.stage (ended r n at) in
+          subst (λ (b : Phase). stands n.part (record { run = run; rank = r; turn = turns_of run }) b) phase
+          (subst (λ (t : ℕ). stands n.part (record { run = run; rank = r; turn = t }) (phase_of n.progress.stage)) turn
+          (subst (λ (k : ℕ). stands n.part (record { run = run; rank = k; turn = turn_of run n.progress.stage }) (phase_of n.progress.stage)) rank.rank rank.node.part));
       empty = λ p q. elim (cases_lt p run.ranks) [
         | inl p_below ↦ elim (cases_lt q run.ranks) [
           | inl q_below ↦ (done_delivered (scripts run) w p q (IsClosed-turns run.ranks (turns_of run) (request (schedule run)) (values_letter (schedule run))) is.fit over p_below q_below).flight

@@ -23,7 +23,7 @@ use Rattle.rank_scripts.proofs.RankLemmas.{put_same}
 use Rattle.turn_node.specs.Parts.{At}
 use Rattle.turn_node.proofs.PositionLemmas.{receiver_below}
 use Rattle.turn_node.specs.declared.stage.Want.TheVariants as want
-use Rattle.turn_node.specs.Positions.{want_of}
+use Rattle.turn_node.specs.Positions.{Phase, want_of}
 use Rattle.turn_world.specs.declared.world.World.{World}
 use Rattle.turn_world.specs.Worlds.{node_or, node_in, flight_in, world_in, is_work, is_post, is_end, steps_left, Happened, IsRank, IsFit, IsStart, IsPosted}
 
@@ -69,14 +69,14 @@ boxes_set boxes p q letters p_below q_below =
         ])
 
 -- a node of a fit world
-pub rank_at : {A : Type 0} (stands : A → At → Bool → Type 0) (run : Run) (nodes : List (Node A)) (boxes : List (List (List Letter))) (r : ℕ) (n : Node A) → IsFit stands run nodes boxes → slice_get nodes r ≡ Some n → node_in run nodes r ≡ rank_in run n
+pub rank_at : {A : Type 0} (stands : A → At → Phase → Type 0) (run : Run) (nodes : List (Node A)) (boxes : List (List (List Letter))) (r : ℕ) (n : Node A) → IsFit stands run nodes boxes → slice_get nodes r ≡ Some n → node_in run nodes r ≡ rank_in run n
 rank_at stands run nodes boxes r n fit at = ap (node_or run r) at
 
 some_same : {X : Type 0} (x y : X) → Some x ≡ Some y → x ≡ y
 some_same x y same = cc
 
 -- the world after an event that changes one node
-pub nodes_are-set : {A : Type 0} (stands : A → At → Bool → Type 0) (run : Run) (nodes : List (Node A)) (r : ℕ) (n : Node A) → r < length nodes → ((k : ℕ) (m : Node A) → slice_get nodes k ≡ Some m → IsRank stands run k m) → IsRank stands run r n →
+pub nodes_are-set : {A : Type 0} (stands : A → At → Phase → Type 0) (run : Run) (nodes : List (Node A)) (r : ℕ) (n : Node A) → r < length nodes → ((k : ℕ) (m : Node A) → slice_get nodes k ≡ Some m → IsRank stands run k m) → IsRank stands run r n →
     (k : ℕ) (m : Node A) → slice_get (set nodes r n) k ≡ Some m → IsRank stands run k m
 nodes_are-set stands run nodes r n below are is k m at =
     elim (cases_eq k r) [
@@ -101,7 +101,7 @@ works_same run nodes boxes r n new below at moved =
     world_same _ _ _ _ (nodes_set run nodes r new below ∙ ap (put (node_in run nodes) r) (moved ∙ ap (worked (scripts run) r) (sym (ap (node_or run r) at)))) refl
 
 -- a fit world stays fit
-pub stays_fit : {A : Type 0} (stands : A → At → Bool → Type 0) (run : Run) (nodes : List (Node A)) (boxes new_boxes : List (List (List Letter))) (r : ℕ) (new : Node A) (event : worlds.Event) → IsFit stands run nodes boxes → r < length nodes → IsRank stands run r new →
+pub stays_fit : {A : Type 0} (stands : A → At → Phase → Type 0) (run : Run) (nodes : List (Node A)) (boxes new_boxes : List (List (List Letter))) (r : ℕ) (new : Node A) (event : worlds.Event) → IsFit stands run nodes boxes → r < length nodes → IsRank stands run r new →
     length new_boxes ≡ run.ranks → All (λ row. length row ≡ run.ranks) new_boxes → can (scripts run) (world_in run nodes boxes) event ≡ true →
     world_in run (set nodes r new) new_boxes ≡ happens (scripts run) (world_in run nodes boxes) event → IsFit stands run (set nodes r new) new_boxes
 stays_fit stands run nodes boxes new_boxes r new event is below rank rows row enabled same =
@@ -173,7 +173,7 @@ test_past run nodes r b count none =
     rw (le-ltb r run.ranks past) refl
 
 -- a new world
-pub new_same : {A : Type 0} (stands : A → At → Bool → Type 0) (run : Run) (nodes : List (Node A)) (count : ℕ) (boxes : List (List (List Letter))) → IsStart stands run nodes → boxes ≡ replicate count (replicate count []) → world_in run nodes boxes ≡ start (scripts run)
+pub new_same : {A : Type 0} (stands : A → At → Phase → Type 0) (run : Run) (nodes : List (Node A)) (count : ℕ) (boxes : List (List (List Letter))) → IsStart stands run nodes → boxes ≡ replicate count (replicate count []) → world_in run nodes boxes ≡ start (scripts run)
 new_same {A} stands run nodes count boxes is are =
     world_same _ _ _ _
     (fun_ext (λ r. by_get r (slice_get nodes r) refl))
@@ -196,7 +196,7 @@ new_same {A} stands run nodes count boxes is are =
           | inr past ↦ get_or_past (replicate count empty) q [] (rw (length-replicate count empty) past)
         ]
 
-pub new_fit : {A : Type 0} (stands : A → At → Bool → Type 0) (run : Run) (nodes : List (Node A)) (count : ℕ) (boxes : List (List (List Letter))) → IsRun run → IsStart stands run nodes → boxes ≡ replicate count (replicate count []) → count ≡ run.ranks → IsFit stands run nodes boxes
+pub new_fit : {A : Type 0} (stands : A → At → Phase → Type 0) (run : Run) (nodes : List (Node A)) (count : ℕ) (boxes : List (List (List Letter))) → IsRun run → IsStart stands run nodes → boxes ≡ replicate count (replicate count []) → count ≡ run.ranks → IsFit stands run nodes boxes
 new_fit stands run nodes count boxes run_is is are counted =
     let empty : List Letter = [] in
     record {
@@ -217,7 +217,7 @@ pub ok_two : {T E : Type 0} (result : Result T E) (A B C : Type 0) → OnOk resu
 ok_two (Ok x) A B C a b f = f a b
 ok_two (Err e) A B C a b f = tt
 
-pub works_done : {A : Type 0} (stands : A → At → Bool → Type 0) (run : Run) (nodes new_nodes : List (Node A)) (boxes : List (List (List Letter))) (r : ℕ) (n new : Node A) → IsFit stands run nodes boxes → can (scripts run) (world_in run nodes boxes) (Works r) ≡ true →
+pub works_done : {A : Type 0} (stands : A → At → Phase → Type 0) (run : Run) (nodes new_nodes : List (Node A)) (boxes : List (List (List Letter))) (r : ℕ) (n new : Node A) → IsFit stands run nodes boxes → can (scripts run) (world_in run nodes boxes) (Works r) ≡ true →
     slice_get nodes r ≡ Some n → new_nodes ≡ set nodes r new → HasWorked stands run n new →
     Happened stands run nodes boxes (Works r) new_nodes boxes
 works_done {A} stands run nodes new_nodes boxes r n new is enabled at nodes_are has =
@@ -232,7 +232,7 @@ row_kept : (run : Run) (boxes : List (List (List Letter))) (p q : ℕ) (letters 
     All (λ row. length row ≡ run.ranks) (set boxes p (set (get_or boxes p []) q letters))
 row_kept run boxes p q letters row below = All-set (λ row. length row ≡ run.ranks) boxes p (set (get_or boxes p []) q letters) (length-set (get_or boxes p []) q letters ∙ row p [] below) row
 
-pub posts_done : {A : Type 0} (stands : A → At → Bool → Type 0) (run : Run) (nodes new_nodes : List (Node A)) (boxes new_boxes : List (List (List Letter))) (r : ℕ) (n new : Node A) → IsFit stands run nodes boxes → can (scripts run) (world_in run nodes boxes) (Posts r) ≡ true →
+pub posts_done : {A : Type 0} (stands : A → At → Phase → Type 0) (run : Run) (nodes new_nodes : List (Node A)) (boxes new_boxes : List (List (List Letter))) (r : ℕ) (n new : Node A) → IsFit stands run nodes boxes → can (scripts run) (world_in run nodes boxes) (Posts r) ≡ true →
     slice_get nodes r ≡ Some n → new_nodes ≡ set nodes r new → HasPosted stands run n new → IsPosted run r n boxes new_boxes →
     Happened stands run nodes boxes (Posts r) new_nodes new_boxes
 posts_done {A} stands run nodes new_nodes boxes new_boxes r n new is enabled at nodes_are has put_in =
@@ -248,7 +248,7 @@ posts_done {A} stands run nodes new_nodes boxes new_boxes r n new is enabled at 
     subst P (sym nodes_are) (subst Q (sym put_in.boxes)
     (record { fit = stays_fit stands run nodes boxes _ r new (Posts r) is below rank (length-set boxes r _ ∙ is.rows) (row_kept run boxes r put_in.to _ is.row row) enabled same; same = same }))
 
-pub takes_done : {A : Type 0} (stands : A → At → Bool → Type 0) (run : Run) (nodes new_nodes : List (Node A)) (boxes new_boxes : List (List (List Letter))) (r from : ℕ) (n new : Node A) → IsFit stands run nodes boxes → can (scripts run) (world_in run nodes boxes) (Takes r from) ≡ true →
+pub takes_done : {A : Type 0} (stands : A → At → Phase → Type 0) (run : Run) (nodes new_nodes : List (Node A)) (boxes new_boxes : List (List (List Letter))) (r from : ℕ) (n new : Node A) → IsFit stands run nodes boxes → can (scripts run) (world_in run nodes boxes) (Takes r from) ≡ true →
     slice_get nodes r ≡ Some n → new_nodes ≡ set nodes r new → IsRank stands run r new → rank_in run new ≡ took (scripts run) r (rank_in run n) from (take 1 (flight_in boxes from r)) →
     from < run.ranks → new_boxes ≡ set boxes from (set (get_or boxes from []) r (drop 1 (flight_in boxes from r))) →
     Happened stands run nodes boxes (Takes r from) new_nodes new_boxes
@@ -277,11 +277,11 @@ want_post (Post k letter ∷ acts) to wanted = cc
 want_post (Wait ∷ acts) to wanted = absurd (cc)
 
 -- a node by its index in the list that the world gave away
-pub lent_node : {A : Type 0} (stands : A → At → Bool → Type 0) (run : Run) (nodes items : List (Node A)) (boxes : List (List (List Letter))) (r : ℕ) (n : Node A) → IsFit stands run nodes boxes → items ≡ nodes → r < run.ranks → n ≡ get_or items r n → slice_get nodes r ≡ Some n
+pub lent_node : {A : Type 0} (stands : A → At → Phase → Type 0) (run : Run) (nodes items : List (Node A)) (boxes : List (List (List Letter))) (r : ℕ) (n : Node A) → IsFit stands run nodes boxes → items ≡ nodes → r < run.ranks → n ≡ get_or items r n → slice_get nodes r ≡ Some n
 lent_node stands run nodes items boxes r n is are below read =
     ap (λ xs. slice_get xs r) (sym are) ∙ slice_get_read items (length items) r n refl (rw (are, is.count) below) read
 
-pub takes_done_of : {A : Type 0} (stands : A → At → Bool → Type 0) (run : Run) (nodes new_nodes : List (Node A)) (boxes new_boxes : List (List (List Letter))) (r from : ℕ) (n new : Node A) → IsFit stands run nodes boxes → can (scripts run) (world_in run nodes boxes) (Takes r from) ≡ true →
+pub takes_done_of : {A : Type 0} (stands : A → At → Phase → Type 0) (run : Run) (nodes new_nodes : List (Node A)) (boxes new_boxes : List (List (List Letter))) (r from : ℕ) (n new : Node A) → IsFit stands run nodes boxes → can (scripts run) (world_in run nodes boxes) (Takes r from) ≡ true →
     slice_get nodes r ≡ Some n → new_nodes ≡ set nodes r new → HasTaken stands run from (take 1 (flight_in boxes from r)) n new →
     from < run.ranks → new_boxes ≡ set boxes from (set (get_or boxes from []) r (drop 1 (flight_in boxes from r))) →
     Happened stands run nodes boxes (Takes r from) new_nodes new_boxes
@@ -294,7 +294,7 @@ some_in [] some none = absurd (cc)
 some_in (x ∷ xs) some none = absurd (cc)
 
 -- the letter that is taken is the next one of its book
-pub next_taken : {A : Type 0} (stands : A → At → Bool → Type 0) (run : Run) (nodes : List (Node A)) (boxes : List (List (List Letter))) (r from : ℕ) (n : Node A) (letter : Letter) → IsFit stands run nodes boxes → can (scripts run) (world_in run nodes boxes) (Takes r from) ≡ true →
+pub next_taken : {A : Type 0} (stands : A → At → Phase → Type 0) (run : Run) (nodes : List (Node A)) (boxes : List (List (List Letter))) (r from : ℕ) (n : Node A) (letter : Letter) → IsFit stands run nodes boxes → can (scripts run) (world_in run nodes boxes) (Takes r from) ≡ true →
     slice_get nodes r ≡ Some n → take 1 (flight_in boxes from r) ≡ letter ∷ [] → IsNextOf (book (scripts run) from n.progress.rank) ((rank_in run n).given from) letter
 next_taken stands run nodes boxes r from n letter is enabled at first =
     let w = world_in run nodes boxes in
@@ -308,7 +308,7 @@ next_taken stands run nodes boxes r from n letter is enabled at first =
     let R : ℕ → Type 0 = λ k. IsNextOf (book (scripts run) from k) ((rank_in run n).given from) letter in
     subst R (sym (is.nodes_are r n at).rank) (subst Q given (subst P same next.next))
 
-pub post_below : {A : Type 0} (stands : A → At → Bool → Type 0) (run : Run) (r : ℕ) (n : Node A) → IsRank stands run r n → at_post (rank_in run n).todo ≡ true → receiver (rank_in run n).todo < run.ranks
+pub post_below : {A : Type 0} (stands : A → At → Phase → Type 0) (run : Run) (r : ℕ) (n : Node A) → IsRank stands run r n → at_post (rank_in run n).todo ≡ true → receiver (rank_in run n).todo < run.ranks
 post_below stands run r n is at = receiver_below run n.progress.rank n.progress.stage is.node.progress.stage at
 
 pub err_two : {T E : Type 0} (result : Result T E) (A B C : Type 0) → OnErr result A → OnErr result B → (A → B → C) → OnErr result C

@@ -13,6 +13,7 @@ use Rattle.turn_node.specs.declared.stage.Want.{Want}
 use Rattle.turn_node.specs.declared.stage.Want.TheVariants as want
 use Rattle.turn_node.specs.NodeStates.{allowance, rank_in, IsNode}
 use Rattle.turn_node.specs.Parts.{At}
+use Rattle.turn_node.specs.Positions.{New, Phase, Ready}
 use Rattle.turn_world.specs.declared.event.Event.{Event}
 use Rattle.turn_world.specs.declared.world.World.{World}
 use Rattle.turn_world.specs.declared.event.Event.TheVariants.{Work, Post, Take}
@@ -39,12 +40,12 @@ abbrev pub world_in : {A : Type 0} → Run → List (Node A) → List (List (Lis
 world_in run nodes boxes = record { node = node_in run nodes; flight = flight_in boxes }
 
 -- node r is rank r of the run
-pub record IsRank {A : Type 0} (stands : A → At → Bool → Type 0) (run : Run) (r : ℕ) (n : Node A) : Type 0 where
+pub record IsRank {A : Type 0} (stands : A → At → Phase → Type 0) (run : Run) (r : ℕ) (n : Node A) : Type 0 where
   pub rank : n.progress.rank ≡ r
   pub node : IsNode stands run n
 
 -- one node for each rank, one box for each pair, and all fit
-pub record IsFit {A : Type 0} (stands : A → At → Bool → Type 0) (run : Run) (nodes : List (Node A)) (boxes : List (List (List Letter))) : Type 0 where
+pub record IsFit {A : Type 0} (stands : A → At → Phase → Type 0) (run : Run) (nodes : List (Node A)) (boxes : List (List (List Letter))) : Type 0 where
   pub run_is : IsRun run
   pub count : length nodes ≡ run.ranks
   pub nodes_are : (r : ℕ) (n : Node A) → slice_get nodes r ≡ Some n → IsRank stands run r n
@@ -56,7 +57,7 @@ pub record IsFit {A : Type 0} (stands : A → At → Bool → Type 0) (run : Run
 abbrev pub world_of : {A : Type 0} → Run → World A → worlds.World Letter
 world_of run w = world_in run w.nodes w.boxes
 
-abbrev pub IsWorld : {A : Type 0} → (A → At → Bool → Type 0) → Run → World A → Type 0
+abbrev pub IsWorld : {A : Type 0} → (A → At → Phase → Type 0) → Run → World A → Type 0
 IsWorld stands run w = IsFit stands run w.nodes w.boxes
 
 -- the steps that the works of all nodes may still take
@@ -64,12 +65,12 @@ abbrev pub steps_left : {A : Type 0} → Run → List (Node A) → ℕ
 steps_left run nodes = sum_by (allowance run) nodes
 
 -- an event that happened: the world is fit still, and has gone on as the machine does
-pub record Happened {A : Type 0} (stands : A → At → Bool → Type 0) (run : Run) (nodes : List (Node A)) (boxes : List (List (List Letter))) (event : worlds.Event)
+pub record Happened {A : Type 0} (stands : A → At → Phase → Type 0) (run : Run) (nodes : List (Node A)) (boxes : List (List (List Letter))) (event : worlds.Event)
     (new_nodes : List (Node A)) (new_boxes : List (List (List Letter))) : Type 0 where
   pub fit : IsFit stands run new_nodes new_boxes
   pub same : world_in run new_nodes new_boxes ≡ worlds.happens (scripts run) (world_in run nodes boxes) event
 
-abbrev pub HasHappened : {A : Type 0} → (A → At → Bool → Type 0) → Run → worlds.Event → World A → World A → Type 0
+abbrev pub HasHappened : {A : Type 0} → (A → At → Phase → Type 0) → Run → worlds.Event → World A → World A → Type 0
 HasHappened stands run event old new = Happened stands run old.nodes old.boxes event new.nodes new.boxes
 
 -- what is listed has grown by those of these events that are enabled
@@ -92,7 +93,7 @@ abbrev pub with_flight : List (List (List Letter)) → ℕ → ℕ → List Lett
 with_flight boxes p q letters = slice_set boxes p (slice_set (slice_index_or boxes p []) q letters)
 
 -- one new node for each rank
-pub record IsStart {A : Type 0} (stands : A → At → Bool → Type 0) (run : Run) (nodes : List (Node A)) : Type 0 where
+pub record IsStart {A : Type 0} (stands : A → At → Phase → Type 0) (run : Run) (nodes : List (Node A)) : Type 0 where
   pub count : length nodes ≡ run.ranks
   pub nodes_are : (r : ℕ) (n : Node A) → slice_get nodes r ≡ Some n → IsRank stands run r n
   pub fresh_are : (r : ℕ) (n : Node A) → slice_get nodes r ≡ Some n → rank_in run n ≡ fresh (scripts run) r
@@ -130,13 +131,13 @@ pub record IsAmong (event : Event) (events : List Event) : Type 0 where
   pub at : slice_get events place ≡ Some event
 
 -- each node is done, its part of the arrays stands after the last turn, and every box is empty
-pub record AreAtEnd {A : Type 0} (stands : A → At → Bool → Type 0) (run : Run) (nodes : List (Node A)) (boxes : List (List (List Letter))) : Type 0 where
+pub record AreAtEnd {A : Type 0} (stands : A → At → Phase → Type 0) (run : Run) (nodes : List (Node A)) (boxes : List (List (List Letter))) : Type 0 where
   pub done : (r : ℕ) (n : Node A) → slice_get nodes r ≡ Some n → at_end (rank_in run n).todo ≡ true
-  pub parts : (r : ℕ) (n : Node A) → slice_get nodes r ≡ Some n → stands n.part (record { run = run; rank = r; turn = turns_of run }) false
+  pub parts : (r : ℕ) (n : Node A) → slice_get nodes r ≡ Some n → stands n.part (record { run = run; rank = r; turn = turns_of run }) Ready
   pub empty : (p q : ℕ) → flight_in boxes p q ≡ []
 
 -- from a world of nodes on, whatever events are tried in whatever order
-abbrev pub EveryListIsFit : {A : Type 0} → (A → At → Bool → Type 0) → Type 0
+abbrev pub EveryListIsFit : {A : Type 0} → (A → At → Phase → Type 0) → Type 0
 EveryListIsFit {A} stands =
     (run : Run) (nodes : List (Node A)) (boxes : List (List (List Letter))) → IsFit stands run nodes boxes → (events : List Event) →
     Fit (scripts run) (worlds.run (scripts run) (world_in run nodes boxes) (map event_of events))

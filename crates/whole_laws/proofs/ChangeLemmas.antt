@@ -179,14 +179,14 @@ changed-stores-hold job entries number before after old new h n =
 
 -- ---- states
 
-set_other : {X : Type 0} (xs : List X) (n k : ℕ) (x : X) → (k ≡ n → ⊥) → slice_get (slice_set xs n x) k ≡ slice_get xs k
+pub set_other : {X : Type 0} (xs : List X) (n k : ℕ) (x : X) → (k ≡ n → ⊥) → slice_get (slice_set xs n x) k ≡ slice_get xs k
 set_other [] n k x apart = refl
 set_other (y ∷ xs) zero zero x apart = absurd (apart refl)
 set_other (y ∷ xs) zero (suc k) x apart = refl
 set_other (y ∷ xs) (suc n) zero x apart = refl
 set_other (y ∷ xs) (suc n) (suc k) x apart = set_other xs n k x (λ same. apart (ap (λ m. suc m) same))
 
-set_same : {X : Type 0} (xs : List X) (n : ℕ) (x old : X) → slice_get xs n ≡ Some old → slice_get (slice_set xs n x) n ≡ Some x
+pub set_same : {X : Type 0} (xs : List X) (n : ℕ) (x old : X) → slice_get xs n ≡ Some old → slice_get (slice_set xs n x) n ≡ Some x
 set_same [] n x old is = absurd cc
 set_same (y ∷ xs) zero x old is = refl
 set_same (y ∷ xs) (suc n) x old is = set_same xs n x old is

@@ -11,4 +11,4 @@ mod turns;
 
 pub use places::whole_places;
 pub use running::run_whole;
-pub use stores::whole_stores;
+pub use stores::{values_fit, whole_stores};

@@ -56,7 +56,7 @@ fn all_rows(alloc: Global, rows: u32) -> Result<Items<u32>, NoMemory>
 }
 
 /// Does nothing: each value of a matrix fits 64 bits, which contracts learn from the bits alone.
-fn values_fit(matrix: &Matrix)
+pub fn values_fit(matrix: &Matrix)
     ensures { All (λ e. e.value < 2 ^ 64) matrix.now.entries }
 {
     for entry in matrix.entries.as_slice() {

@@ -1,4 +1,5 @@
 use Rattle.std.proofs.Common.{◌+◌, ◌∷◌, [], length, length-append, Ok, Err, ap, ◌∙◌, subst, sym}
+use Rattle.std.proofs.Math.Nat.{le_trans}
 use Rattle.bern_ports.specs.Frames.{shelf_state}
 use Rattle.bern_ports.proofs.FrameLemmas.{keeps_then}
 use Rattle.job_files.specs.declared.uses.Use.{Use}
@@ -6,7 +7,7 @@ use Rattle.job_files.specs.declared.serving.Loaded.{Loaded}
 use Rattle.job_files.specs.Answers.{BlamesOne, KeepsCounts}
 use Rattle.job_files.specs.FileOrder.{LoadsUses}
 use Rattle.job_files.specs.Serving.{Beside, IsFit, IsFitFor, IsServedSoFar, Serves, is_known}
-use Rattle.job_files.proofs.ServingLemmas.{all_counted, all_for_uses, beside_more, next_use, served_more, use_stops, uses_done}
+use Rattle.job_files.proofs.ServingLemmas.{all_counted, all_for_uses, all_have_room, beside_more, next_use, served_more, use_stops, uses_done}
 use Rattle.job_files.proofs.ShelfLemmas.{as_fault, cause_then, if_some_weaker, told_both}
 use Rattle.job_files.proofs.serving.load_uses.Goals as goal
 
@@ -38,9 +39,11 @@ uses-preserved g c =
           c.uses.invariant.keeps.files (λ fs before blame n. blame n ∙ before n) c.uses.invariant.calm c.in-Ok.ensures.cause.blame;
       count = ap length c.in-Ok-push.ensures.ok ∙ length-append c.uses.matrices (l.matrix ∷ []) ∙ ap (λ n. n + 1) c.uses.invariant.count;
       light = c.in-Ok.ensures.light;
-      fit = subst (λ ms. Beside (IsFitFor c.args.uses.now) c.args.uses.now ms) (sym c.in-Ok-push.ensures.ok)
-          (beside_more (IsFitFor c.args.uses.now) c.args.uses.now c.uses.matrices u l.matrix c.uses.invariant.fit at
-          (subst (λ n. IsFit c.args.uses.now n l.matrix) c.file.ensures c.in-Ok.ensures.fit));
+      grows = le_trans c.uses.invariant.grows c.in-Ok.ensures.grows;
+      fit = subst (λ ms. Beside (IsFitFor c.args.weight c.args.uses.now) c.args.uses.now ms) (sym c.in-Ok-push.ensures.ok)
+          (beside_more (IsFitFor c.args.weight c.args.uses.now) c.args.uses.now c.uses.matrices u l.matrix c.uses.invariant.fit at
+          (subst (λ n. IsFit c.args.weight c.args.uses.now n l.matrix) c.file.ensures
+          (c.in-Ok.ensures.fit c.args.weight c.uses.invariant.grows c.uses.invariant.fit)));
       told = told_both (g.F.Shelf.files c.args.shelf.now) (g.F.Shelf.files c.uses.shelf)
           (λ fs. IsServedSoFar fs c.args.weight c.args.uses.now c.uses.matrices c.uses.total)
           (λ fs. Serves fs c.args.uses.now c.uses.total c.file.result.now (is_known c.args.uses.now c.uses.matrices c.file.result.now) (Ok l))
@@ -60,8 +63,11 @@ returns-in-Err-clause-cause g c =
 
 pub returns-clause-matrix : goal.returns-clause-matrix
 returns-clause-matrix g c =
-    all_for_uses c.args.uses.now c.uses.matrices c.uses.invariant.fit
+    all_for_uses c.args.weight c.args.uses.now c.uses.matrices c.uses.invariant.fit
     (all_counted c.as_slice-wanted-items.result.now c.args.uses.now c.uses.wanted-index (length c.uses.matrices) c.as_slice-wanted-items.ensures c.uses.invariant.count c.uses.auto.wanted-index-end c.uses-test.false)
+
+pub returns-clause-room : goal.returns-clause-room
+returns-clause-room g c = all_have_room c.args.weight c.args.uses.now c.uses.matrices c.uses.invariant.fit
 
 pub returns-clause-told : goal.returns-clause-told
 returns-clause-told g c =

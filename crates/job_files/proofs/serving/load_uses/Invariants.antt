@@ -12,6 +12,7 @@ invariant-uses g l = record {
   calm : IfSome (g.F.Shelf.files l.fn.shelf) (λ fs. KeepsCounts (shelf_state g.F.Shelf l.fn.shelf) (shelf_state g.F.Shelf l.shelf));
   count : length l.matrices ≡ l.wanted-index;
   light : l.total ≤ MOST_WEIGHT;
-  fit : Beside (IsFitFor l.uses) l.uses l.matrices;
+  grows : l.weight ≤ l.total;
+  fit : Beside (IsFitFor l.weight l.uses) l.uses l.matrices;
   told : IfSome (g.F.Shelf.files l.fn.shelf) (λ fs. IsServedSoFar fs l.weight l.uses l.matrices l.total);
 }

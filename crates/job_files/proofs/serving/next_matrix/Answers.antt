@@ -6,8 +6,8 @@ use Rattle.job_files.proofs.ServingLemmas.{fit_again, serves_again}
 use Rattle.job_files.proofs.serving.next_matrix.Goals as goal
 
 pub returns-in-Ok-clause-fit : goal.returns-in-Ok-clause-fit
-returns-in-Ok-clause-fit g c =
-    fit_again c.args.uses.now c.args.uses.now c.args.matrices.now c.args.file.now c.in-Ok.matrix c.requires.fit (sym c.in-Some.ensures ∙ ap (λ m. Some m) (sym c.in-Ok.ensures))
+returns-in-Ok-clause-fit g c first low beside =
+    fit_again first c.args.uses.now c.args.uses.now c.args.matrices.now c.args.file.now c.in-Ok.matrix beside (sym c.in-Some.ensures ∙ ap (λ m. Some m) (sym c.in-Ok.ensures))
 
 pub returns-in-Ok-clause-told : goal.returns-in-Ok-clause-told
 returns-in-Ok-clause-told g c =

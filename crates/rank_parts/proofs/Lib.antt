@@ -1,0 +1,4 @@
+pub mod DealLemmas
+pub mod HeldLemmas
+pub mod PlaceLemmas
+pub mod RowLemmas
